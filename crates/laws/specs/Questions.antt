@@ -1,0 +1,53 @@
+-- Questions in a fixed order: the first "no" gives the number, and no other does. Assumes nothing.
+use mathlib.Core.Path.{_≡_, refl}
+use mathlib.Core.Bool.{Bool, true, false, cond, _&&_}
+use mathlib.Core.List.{List, [], _∷_, _++_}
+use Prim.Native.Nat.{ℕ, suc, _<_}
+use native.Mathlib.Omega.{arith}
+
+-- does it hold?, and the number that a "no" gives
+abbrev pub Question : Type 0
+Question = Bool × ℕ
+
+-- the first question that says no gives the number; 0 if none does
+abbrev pub refusal : List Question → ℕ
+refusal [] = 0
+refusal (q ∷ qs) = cond (q .0) (refusal qs) (q .1)
+
+-- none says no
+abbrev pub allHold : List Question → Bool
+allHold [] = true
+allHold (q ∷ qs) = q .0 && allHold qs
+
+pub refusal-none : (qs : List Question) → allHold qs ≡ true → refusal qs ≡ 0
+refusal-none [] e = refl
+refusal-none (q ∷ qs) e = go (q .0) e (refusal-none qs)
+  where
+    go : (b : Bool) → b && allHold qs ≡ true → (allHold qs ≡ true → refusal qs ≡ 0) → cond b (refusal qs) (q .1) ≡ 0
+    go true e i = i e
+    go false e i = let z : _≡_ {A = ℕ} 0 1 = cc in absurd (omega arith)
+
+-- where none says no, the questions that follow decide
+pub refusal-after : (qs rs : List Question) → allHold qs ≡ true → refusal (qs ++ rs) ≡ refusal rs
+refusal-after [] rs e = refl
+refusal-after (q ∷ qs) rs e = go (q .0) e (refusal-after qs rs)
+  where
+    go : (b : Bool) → b && allHold qs ≡ true → (allHold qs ≡ true → refusal (qs ++ rs) ≡ refusal rs)
+        → cond b (refusal (qs ++ rs)) (q .1) ≡ refusal rs
+    go true e i = i e
+    go false e i = let z : _≡_ {A = ℕ} 0 1 = cc in absurd (omega arith)
+
+-- a number stands, whatever is asked after it
+pub refusal-stands : (qs rs : List Question) (k : ℕ) → refusal qs ≡ suc k → refusal (qs ++ rs) ≡ suc k
+refusal-stands [] rs k e = absurd (omega arith)
+refusal-stands (q ∷ qs) rs k e = go (q .0) e (refusal-stands qs rs k)
+  where
+    go : (b : Bool) → cond b (refusal qs) (q .1) ≡ suc k → (refusal qs ≡ suc k → refusal (qs ++ rs) ≡ suc k)
+        → cond b (refusal (qs ++ rs)) (q .1) ≡ suc k
+    go true e i = i e
+    go false e i = e
+
+-- no number: the first question holds, and so do the others
+pub refusal-held : (b : Bool) (k : ℕ) (qs : List Question) → 0 < k → refusal ((b, k) ∷ qs) ≡ 0 → (b ≡ true) × (refusal qs ≡ 0)
+refusal-held true k qs h e = (refl, e)
+refusal-held false k qs h e = absurd (omega arith)

@@ -1,0 +1,1 @@
+// Shared lemmas; no code. See specs/.

@@ -1,0 +1,14 @@
+-- The just-in-time schedule. Document 01, 'The schedule rule': "in the last round A = C; before it, A(t) is the larger of
+-- C(t) and A(t+1) - b, the latter taken as 0 if negative".
+use mathlib.Core.List.{List, [], _∷_}
+use Prim.Native.Nat.{ℕ, _+_, _-_, max}
+
+-- the total due by the end of the round that sends x, where c were sent before it and xs are sent after it
+abbrev pub due : ℕ → ℕ → ℕ → List ℕ → ℕ
+due b c x [] = c + x
+due b c x (y ∷ ys) = max (c + x) (due b (c + x) y ys - b)
+
+-- the list of them
+abbrev pub justInTime : ℕ → ℕ → List ℕ → List ℕ
+justInTime b c [] = []
+justInTime b c (x ∷ xs) = due b c x xs ∷ justInTime b (c + x) xs
