@@ -1,1 +1,144 @@
-// The schedule rule.
+// Read schedules of films: existence, peak, what is held, one round.
+ghost use mathlib.Core.Path.{_≡_};
+ghost use Prim.Native.Nat.{_+_, _-_, _*_, _≤_, _<_, min, max};
+ghost use lib.ListN.{length, getD, drop};
+ghost use Rattle.films.specs.Sizes.{size, sizes, Stored};
+ghost use Rattle.retrieval.specs.Schedule.{peak, largest};
+ghost use Rattle.retrieval.specs.JustInTime.{justInTime, existsBy};
+ghost use Rattle.retrieval.specs.Carry.{carry, profile};
+ghost use Rattle.retrieval.specs.Stored.{sendsAt, InRange, maxHeld};
+ghost use Rattle.limits.specs.Bounds.{maxSize};
+ghost use Rattle.retrieval.specs.Sheet.{plus, heldIn, Adds};
+ghost use Rattle.retrieval.specs.Round.{roundOf};
+
+fn wide(x: u8) -> u64
+    ensures { λ r. ⌜ (r ≡ x) × (r < 256) ⌝ }
+{
+    x as u64
+}
+
+fn size_at(s: &[u8], at: usize) -> u64
+    requires { ⌜ at + 4 ≤ length (now s) ⌝ }
+    ensures { λ r. ⌜ r ≡ size (now (s .entry)) at ⌝ }
+{
+    wide(s[at]) + 256 * wide(s[at + 1]) + 65536 * wide(s[at + 2]) + 16777216 * wide(s[at + 3])
+}
+
+// What one round of a film reads, sends and holds, in bytes.
+pub struct Round {
+    pub read: u64,
+    pub send: u64,
+    pub held: u64,
+}
+
+// a less b, and 0 where b is more.
+fn less(a: u64, b: u64) -> u64
+    ensures { λ r. ⌜ r ≡ a - b ⌝ }
+{
+    if b < a { a - b } else { 0 }
+}
+
+// What the film sends in round t, counted from its start.
+fn send_at(file: &[u8], at: usize, n: usize, p: usize, t: usize) -> u64
+    requires { ⌜ (Stored (now file) at n) × (t < p + n) ⌝ }
+    ensures { λ r. ⌜ (r ≡ getD (sendsAt (now (file .entry)) at n p) t 0) × (r ≤ maxSize) ⌝ }
+{
+    if t < p {
+        return 0;
+    }
+    size_at(file, at + 4 * (t - p))
+}
+
+// The carry of the film's rounds from t on.
+fn carry_from(file: &[u8], at: usize, n: usize, p: usize, b: u64, t: usize) -> u64
+    requires { ⌜ (InRange (now file) at n p b) × (t ≤ p + n) ⌝ }
+    ensures { λ r. ⌜ (r ≡ carry b (drop t (sendsAt (now (file .entry)) at n p))) × (r ≤ maxHeld) ⌝ }
+{
+    let mut c: u64 = 0;
+    let mut k = p + n;
+    while t < k {
+        k -= 1;
+        c = less(send_at(file, at, n, p, k) + c, b);
+    }
+    c
+}
+
+// Whether a schedule exists for a film with p pre-fetch rounds at a reserve of b bytes per round.
+pub fn exists(file: &[u8], at: usize, n: usize, p: usize, b: u64) -> bool
+    requires { ⌜ InRange (now file) at n p b ⌝ }
+    ensures { λ r. ⌜ r ≡ existsBy b (sendsAt (now (file .entry)) at n p) ⌝ }
+{
+    carry_from(file, at, n, p, b, 0) == 0
+}
+
+// The larger of two.
+fn larger(a: u64, b: u64) -> u64
+    ensures { λ r. ⌜ r ≡ max a b ⌝ }
+{
+    if a < b { b } else { a }
+}
+
+// The smaller of two.
+fn smaller(a: u64, b: u64) -> u64
+    ensures { λ r. ⌜ r ≡ min a b ⌝ }
+{
+    if a < b { a } else { b }
+}
+
+// The peak of the just-in-time schedule: the most that the film holds in a round, in bytes.
+pub fn peak(file: &[u8], at: usize, n: usize, p: usize, b: u64) -> u64
+    requires { ⌜ InRange (now file) at n p b ⌝ }
+    ensures { λ r. ⌜ r ≡ peak (sendsAt (now (file .entry)) at n p) (justInTime b 0 (sendsAt (now (file .entry)) at n p)) ⌝ }
+{
+    let mut c: u64 = 0;
+    let mut most: u64 = 0;
+    let mut i = n;
+    while 0 < i {
+        i -= 1;
+        let h = size_at(file, at + 4 * i) + c;
+        most = larger(most, h);
+        c = less(h, b);
+    }
+    most
+}
+
+// Adds what the film holds in its rounds from a to e - 1, counted from its start, to the first places of a list, where c is
+// the carry of its rounds from e on. Gives the carry of its rounds from a on.
+pub fn add_held(
+    part: &mut [u64],
+    file: &[u8],
+    at: usize,
+    n: usize,
+    p: usize,
+    b: u64,
+    a: usize,
+    e: usize,
+    c: u64,
+) -> u64
+    requires { ⌜ Adds (now part) (now file) at n p b a e c ⌝ }
+    ensures { λ r. ⌜ (now (part .exit) ≡ plus (now (part .entry)) (heldIn (now (file .entry)) at n p b a e)) × (r ≡ carry b (drop a (sendsAt (now (file .entry)) at n p))) ⌝ }
+{
+    let mut left = c;
+    let mut k = e;
+    while a < k {
+        k -= 1;
+        let h = send_at(file, at, n, p, k) + left;
+        part[k - a] = part[k - a] + h;
+        left = less(h, b);
+    }
+    left
+}
+
+// What the film reads, sends and holds in round t, counted from its start.
+pub fn round_at(file: &[u8], at: usize, n: usize, p: usize, b: u64, t: usize) -> Round
+    requires { ⌜ (InRange (now file) at n p b) × (t < p + n) ⌝ }
+    ensures { λ r. ⌜ r ≡ roundOf b (sendsAt (now (file .entry)) at n p) t ⌝ }
+{
+    let send = send_at(file, at, n, p, t);
+    let held = send + carry_from(file, at, n, p, b, t + 1);
+    Round {
+        read: smaller(b, held),
+        send,
+        held,
+    }
+}

@@ -1,0 +1,139 @@
+-- Reserves that serve a film within a memory cap, and the least of them. Assumes nothing.
+use mathlib.Core.Path.{_≡_, refl, sym}
+use mathlib.Core.Logic.{_↔_}
+use mathlib.Core.Bool.{Bool, true, false, _&&_, not, true≢false}
+use mathlib.Core.List.{List, [], _∷_}
+use Prim.Native.Nat.{ℕ, zero, suc, _+_, _*_, _≤_, _<_}
+use native.Mathlib.Decide.{decLe}
+use native.Mathlib.Omega.{arith}
+use borrow.Author.Tests.{leb-true, le-leb}
+use lib.ListN.{getD}
+use lib.Dec.{leb}
+use Rattle.laws.specs.Tests.{left, right, join}
+use Rattle.retrieval.specs.Schedule.{sends, largest, Schedule, helds, peak}
+use Rattle.retrieval.specs.JustInTime.{justInTime, existsBy}
+use Rattle.retrieval.specs.LeastReserve.{Serves, Least}
+use Rattle.retrieval.specs.Carry.{carry, profile}
+use Rattle.retrieval.specs.CarryLaws.{justInTime-helds, prefetch, prefetch-peak, prefetch-largest, carry-mono, peak-mono, large-carry, large-profile, largest-peak}
+use Rattle.retrieval.specs.Minimality.{justInTime-schedule, schedule-carry, reads-peak, existsBy-carry}
+
+-- a schedule with a peak of at most cap exists exactly if the just-in-time one is such
+pub serves-iff : (xs : List ℕ) (cap b : ℕ) → Serves xs cap b ↔ ((carry b xs ≡ 0) × (largest (profile b xs) ≤ cap))
+serves-iff xs cap b = (
+  λ v. (schedule-carry b xs (v .0) (v .1), omega (arith, v .2, reads-peak b 0 0 xs (v .0) (omega arith) (v .1))),
+  λ v. (justInTime b 0 xs, justInTime-schedule b xs (v .0), rw (justInTime-helds b 0 xs) (v .1)),
+)
+
+pub schedule-mono : (b b′ : ℕ) (xs rs : List ℕ) → b ≤ b′ → Schedule xs b rs → Schedule xs b′ (justInTime b′ 0 xs)
+schedule-mono b b′ xs rs h s = justInTime-schedule b′ xs (omega (arith, carry-mono b b′ xs h, schedule-carry b xs rs s))
+
+pub serves-mono : (xs : List ℕ) (cap b b′ : ℕ) → b ≤ b′ → Serves xs cap b → Serves xs cap b′
+serves-mono xs cap b b′ h v =
+    let u = serves-iff xs cap b .0 v in
+    serves-iff xs cap b′ .1 (omega (arith, u, carry-mono b b′ xs h), omega (arith, u, peak-mono b b′ xs h))
+
+-- so if any reserve serves, one that is at least every size does
+pub serves-large : (xs : List ℕ) (cap b m : ℕ) → largest xs ≤ m → Serves xs cap b → Serves xs cap m
+serves-large xs cap b m h v =
+    serves-iff xs cap m .1
+    (large-carry m xs h, rw (large-profile m xs h) (omega (arith, serves-iff xs cap b .0 v, largest-peak b xs)))
+
+pub film-serves : (xs : List ℕ) (p cap b : ℕ)
+    → Serves (sends p xs) cap b ↔ ((carry b xs ≤ p * b) × (largest (profile b xs) ≤ cap))
+film-serves xs p cap b =
+    let i = serves-iff (sends p xs) cap b in
+    let e = prefetch b p xs in
+    let q = prefetch-peak b p xs in (
+      λ v. let u = i .0 v in omega arith,
+      λ v. i .1 (omega arith),
+    )
+
+-- if m does not serve, what serves is above m
+pub serves-above : (xs : List ℕ) (cap m : ℕ) → (Serves xs cap m → ⊥) → (b : ℕ) → Serves xs cap b → m + 1 ≤ b
+serves-above xs cap m f b v = pick (decLe b m)
+  where
+    pick : Dec (b ≤ m) → m + 1 ≤ b
+    pick (yes h) = absurd (f (serves-mono xs cap b m h v))
+    pick (no h) = omega arith
+
+-- ---- the least reserve
+
+pub least-unique : (xs : List ℕ) (cap b b′ : ℕ) → Least xs cap b → Least xs cap b′ → b ≡ b′
+least-unique xs cap b b′ l m = omega (arith, l .least b′ (m .serves), m .least b (l .serves))
+
+-- whether a reserve serves is decided by the carry and the peak
+pub serves-dec : (xs : List ℕ) (cap b : ℕ) → Dec (Serves xs cap b)
+serves-dec xs cap b = pick (decLe (carry b xs) 0) (decLe (largest (profile b xs)) cap)
+  where
+    pick : Dec (carry b xs ≤ 0) → Dec (largest (profile b xs) ≤ cap) → Dec (Serves xs cap b)
+    pick (yes h) (yes k) = yes (serves-iff xs cap b .1 (omega arith, k))
+    pick (yes h) (no k) = no (λ w. k (serves-iff xs cap b .0 w .1))
+    pick (no h) k = no (λ w. h (omega (arith, serves-iff xs cap b .0 w .0)))
+
+-- where a reserve serves, some reserve is the least
+pub least-below : (xs : List ℕ) (cap b : ℕ) → Serves xs cap b → (m : ℕ) × Least xs cap m
+least-below xs cap zero v = (0, record { serves = v; least = λ b′ w. omega arith })
+least-below xs cap (suc b) v = pick (λ w. least-below xs cap b w) (serves-dec xs cap b)
+  where
+    pick : (Serves xs cap b → (m : ℕ) × Least xs cap m) → Dec (Serves xs cap b) → (m : ℕ) × Least xs cap m
+    pick f (yes w) = f w
+    pick f (no g) = (suc b, record { serves = v; least = λ b′ w. omega (arith, serves-above xs cap b g b′ w) })
+
+-- a reserve of the largest size serves where the cap is as much
+pub largest-serves : (p cap : ℕ) (xs : List ℕ) → largest xs ≤ cap → Serves (sends p xs) cap (largest xs)
+largest-serves p cap xs h =
+    let l = prefetch-largest p xs in
+    serves-iff (sends p xs) cap (largest xs) .1
+    (large-carry (largest xs) (sends p xs) (omega arith), rw (large-profile (largest xs) (sends p xs) (omega arith)) (omega arith))
+
+-- a film has a least reserve exactly if the cap is at least its largest size
+pub least-exists : (p cap : ℕ) (xs : List ℕ) → ((b : ℕ) × Least (sends p xs) cap b) ↔ (largest xs ≤ cap)
+least-exists p cap xs = (
+  λ v. omega (arith, serves-iff (sends p xs) cap (v .0) .0 (v .1 .serves), largest-peak (v .0) (sends p xs), prefetch-largest p xs),
+  λ h. least-below (sends p xs) cap (largest xs) (largest-serves p cap xs h),
+)
+
+-- and it is at most the largest size
+pub least-bound : (p cap b : ℕ) (xs : List ℕ) → Least (sends p xs) cap b → b ≤ largest xs
+least-bound p cap b xs l = l .least (largest xs) (largest-serves p cap xs (least-exists p cap xs .0 (b, l)))
+
+-- ---- the same as tests, for figures
+
+-- b has a schedule with peak at most the cap
+abbrev pub servesBy : List ℕ → ℕ → ℕ → Bool
+servesBy xs cap b = existsBy b xs && leb (peak xs (justInTime b 0 xs)) cap
+
+pub servesBy-iff : (xs : List ℕ) (cap b : ℕ) → (servesBy xs cap b ≡ true) ↔ Serves xs cap b
+servesBy-iff xs cap b = (
+  λ e. serves-iff xs cap b .1
+      (existsBy-carry b xs .0 (left (existsBy b xs) (leb (peak xs (justInTime b 0 xs)) cap) e), rw (justInTime-helds b 0 xs) at (leb-true (peak xs (justInTime b 0 xs)) cap (right (existsBy b xs) e))),
+  λ v. let u = serves-iff xs cap b .0 v in
+      join (existsBy-carry b xs .1 (u .0)) (le-leb (peak xs (justInTime b 0 xs)) cap (rw (justInTime-helds b 0 xs) (u .1))),
+)
+
+-- and is the smallest that has
+abbrev pub leastBy : List ℕ → ℕ → ℕ → Bool
+leastBy xs cap zero = servesBy xs cap 0
+leastBy xs cap (suc b) = servesBy xs cap (suc b) && not (servesBy xs cap b)
+
+pub leastBy-least : (xs : List ℕ) (cap b : ℕ) → leastBy xs cap b ≡ true → Least xs cap b
+leastBy-least xs cap zero e = record { serves = servesBy-iff xs cap 0 .0 e; least = λ b′ w. omega arith }
+leastBy-least xs cap (suc b) e =
+    record {
+      serves = servesBy-iff xs cap (suc b) .0 (left (servesBy xs cap (suc b)) (not (servesBy xs cap b)) e);
+      least = λ b′ w. omega (arith, serves-above xs cap b (λ v. not-both (servesBy xs cap b) (servesBy-iff xs cap b .1 v) (right (servesBy xs cap (suc b)) e)) b′ w);
+    }
+  where
+    not-both : (a : Bool) → a ≡ true → not a ≡ true → ⊥
+    not-both true e f = true≢false (sym f)
+    not-both false e f = true≢false (sym e)
+
+pub least-leastBy : (xs : List ℕ) (cap b : ℕ) → Least xs cap b → leastBy xs cap b ≡ true
+least-leastBy xs cap zero l = servesBy-iff xs cap 0 .1 (l .serves)
+least-leastBy xs cap (suc b) l =
+    join (servesBy-iff xs cap (suc b) .1 (l .serves))
+    (unless (servesBy xs cap b) (λ e. omega (arith, l .least b (servesBy-iff xs cap b .0 e))))
+  where
+    unless : (a : Bool) → (a ≡ true → ⊥) → not a ≡ true
+    unless true f = absurd (f refl)
+    unless false f = refl
