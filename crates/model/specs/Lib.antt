@@ -10,5 +10,11 @@ pub mod Soundness
 pub mod Calls
 pub mod Loss
 pub mod Expected
-pub mod Claim
 pub mod Code
+pub mod FitLaws
+pub mod FirstFit
+pub mod SoundLaws
+pub mod PlayLaws
+pub mod PlacesLaws
+pub mod Steps
+pub mod Claim
