@@ -18,3 +18,4 @@ pub mod PlayLaws
 pub mod PlacesLaws
 pub mod Steps
 pub mod Claim
+pub mod CodeLaws
