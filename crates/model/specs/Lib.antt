@@ -19,3 +19,5 @@ pub mod PlacesLaws
 pub mod Steps
 pub mod Claim
 pub mod CodeLaws
+pub mod DiskLaws
+pub mod SoundTest

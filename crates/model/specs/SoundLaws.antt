@@ -255,7 +255,7 @@ module _ (S : Setting) where
 
   -- ---- a dropped one
 
-  opened-length : (t : ℕ) (bs : List Booking) → opened S t bs ≤ length bs
+  pub opened-length : (t : ℕ) (bs : List Booking) → opened S t bs ≤ length bs
   opened-length t [] = omega arith
   opened-length t (b ∷ bs) = go (openAt S t b) (opened-length t bs)
     where
