@@ -21,3 +21,6 @@ pub mod Claim
 pub mod CodeLaws
 pub mod DiskLaws
 pub mod SoundTest
+pub mod ReportLaws
+pub mod UnreadLaws
+pub mod Safety
