@@ -1,3 +1,8 @@
--- The film file (document 01).
+-- The film file (document 01): its layout, its questions, the films of its bytes, and what is asked of them.
 pub mod Layout
 pub mod Sizes
+pub mod Span
+pub mod Questions
+pub mod Decode
+pub mod Catalogue
+pub mod Lookup
