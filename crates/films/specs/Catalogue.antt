@@ -1,11 +1,13 @@
 -- The catalogue of a file: what later calls look films up in, without reading the file again.
+use mathlib.Core.Path.{_≡_, refl, ap, _∙_}
 use mathlib.Core.Bool.{cond}
 use mathlib.Core.List.{List, _++_}
-use Prim.Native.Nat.{ℕ, _-_}
-use lib.ListN.{replicate}
+use Prim.Native.Nat.{ℕ, _+_, _-_, _<_}
+use native.Mathlib.Omega.{arith}
+use lib.ListN.{length, getD, replicate, List·getD-append}
 use lib.Dec.{eqb}
 use Rattle.limits.specs.Bounds.{maxFilms}
-use Rattle.films.specs.Span.{span}
+use Rattle.films.specs.Span.{span, length-span, getD-span}
 use Rattle.films.specs.Questions.{verdict, filmsIn, entryNumber, entryRounds}
 use Rattle.films.specs.Decode.{offset}
 use Rattle.films.specs.declared.types.Catalogue.{Catalogue}
@@ -36,3 +38,27 @@ unlisted number = record {
 
 unfoldable pub catalogueOf : List ℕ → Catalogue
 catalogueOf s = cond (eqb (verdict s) 0) (listed s) (unlisted (verdict s))
+
+-- ---- what stands at a place
+
+pub places-at : (f : ℕ → ℕ) (n i : ℕ) → i < n → getD (places f n) i 0 ≡ f i
+unfolding places
+places-at f n i h =
+    let l : i < length (span f 0 n) = omega (arith, length-span f 0 n) in
+    List·getD-append (span f 0 n) (replicate (maxFilms - n) 0) 0 i l ∙ getD-span f 0 n i 0 h ∙ ap f (omega arith)
+
+pub listed-count : (s : List ℕ) → listed s .count ≡ filmsIn s
+unfolding listed
+listed-count s = refl
+
+pub listed-number : (s : List ℕ) (i : ℕ) → i < filmsIn s → getD (listed s .numbers) i 0 ≡ entryNumber s i
+unfolding listed
+listed-number s i h = places-at (entryNumber s) (filmsIn s) i h
+
+pub listed-rounds : (s : List ℕ) (i : ℕ) → i < filmsIn s → getD (listed s .rounds) i 0 ≡ entryRounds s i
+unfolding listed
+listed-rounds s i h = places-at (entryRounds s) (filmsIn s) i h
+
+pub listed-offset : (s : List ℕ) (i : ℕ) → i < filmsIn s → getD (listed s .offsets) i 0 ≡ offset s i
+unfolding listed
+listed-offset s i h = places-at (offset s) (filmsIn s) i h
