@@ -60,7 +60,7 @@ entries-numbered s i (suc k) = (omega arith, (omega arith, entries-numbered s (s
 abbrev pub Passes : List ℕ → ℕ → Type 0
 Passes s i = (exceeds s i ≡ true) × (fewRounds s i ≡ true)
 
-entries-held : (s : List ℕ) (i k : ℕ) → refusal (entryQuestions s i k) ≡ 0 → (j : ℕ) → i ≤ j → j < i + k → Passes s j
+pub entries-held : (s : List ℕ) (i k : ℕ) → refusal (entryQuestions s i k) ≡ 0 → (j : ℕ) → i ≤ j → j < i + k → Passes s j
 entries-held s i zero e j p q = absurd (omega arith)
 entries-held s i (suc k) e j p q =
     let h = refusal-held (exceeds s i) filmOrder ((fewRounds s i, roundCount) ∷ entryQuestions s (suc i) k) (omega arith) e in

@@ -1,16 +1,19 @@
 -- The catalogue of a file: what later calls look films up in, without reading the file again.
 use mathlib.Core.Path.{_≡_, refl, ap, _∙_}
-use mathlib.Core.Bool.{cond}
-use mathlib.Core.List.{List, _++_}
+use mathlib.Core.Bool.{cond, _&&_}
+use mathlib.Core.List.{List, [], _∷_, _++_}
 use Prim.Native.Nat.{ℕ, _+_, _-_, _<_}
 use native.Mathlib.Omega.{arith}
 use lib.ListN.{length, getD, replicate, List·getD-append}
-use lib.Dec.{eqb}
-use Rattle.limits.specs.Bounds.{maxFilms}
+use lib.Dec.{leb, eqb}
+use Rattle.limits.specs.Bounds.{maxFilms, maxRounds}
+use Rattle.limits.specs.Refusals.{filmOrder, roundCount}
+use Rattle.laws.specs.Questions.{refusal}
 use Rattle.films.specs.Span.{span, length-span, getD-span}
-use Rattle.films.specs.Questions.{verdict, filmsIn, entryNumber, entryRounds}
+use Rattle.films.specs.Questions.{verdict, filmsIn, entryNumber, entryRounds, roundsBefore, entryQuestions}
 use Rattle.films.specs.Decode.{offset}
 use Rattle.films.specs.declared.types.Catalogue.{Catalogue}
+use Rattle.films.specs.declared.types.Entries.{Entries}
 
 -- f 0, .., f (n - 1) in the first n of the catalogue's places, 0 in the others
 unfoldable pub places : (ℕ → ℕ) → ℕ → List ℕ
@@ -38,6 +41,19 @@ unlisted number = record {
 
 unfoldable pub catalogueOf : List ℕ → Catalogue
 catalogueOf s = cond (eqb (verdict s) 0) (listed s) (unlisted (verdict s))
+
+-- ---- the parts of one pass
+
+-- an entry's two questions; `least` is one more than the number before it, and 0 where there is none
+unfoldable pub entryAnswer : ℕ → ℕ → ℕ → ℕ
+entryAnswer least number n = refusal ((leb least number, filmOrder) ∷ (leb 1 n && leb n maxRounds, roundCount) ∷ [])
+
+-- the first section, read to its end or to the first "no"
+unfoldable pub entriesOf : List ℕ → Entries
+entriesOf s =
+    cond (eqb (refusal (entryQuestions s 0 (filmsIn s))) 0)
+    (record { total = roundsBefore s (filmsIn s); catalogue = listed s })
+    (record { total = 0; catalogue = unlisted (refusal (entryQuestions s 0 (filmsIn s))) })
 
 -- ---- what stands at a place
 

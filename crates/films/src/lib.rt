@@ -1,2 +1,6 @@
 // The film file: its verdict, the catalogue of its films, lookup, the reader and the summary.
+pub mod catalogue;
+pub mod entries;
+pub mod sizes;
 pub mod types;
+pub mod words;

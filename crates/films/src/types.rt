@@ -15,3 +15,9 @@ pub enum Lookup {
     Found(usize, usize),
     Missing,
 }
+
+// The first section as it was read: the sum of the round counts, and the catalogue if the questions after it hold.
+pub struct Entries {
+    pub total: usize,
+    pub catalogue: Catalogue,
+}
