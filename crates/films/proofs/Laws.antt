@@ -20,6 +20,8 @@ use Rattle.films.specs.Span.{span, length-span, span-more}
 use Rattle.films.specs.Questions.{filmsIn, entryNumber, entryRounds, roundsBefore, exceeds, fewRounds, entryQuestions, smallSizes}
 use Rattle.films.specs.Catalogue.{places, entryAnswer}
 use Rattle.films.specs.Accepted.{after}
+use Rattle.films.specs.Lookup.{seek}
+use Rattle.films.specs.declared.types.Lookup.the-variants.{Found, Missing}
 
 -- ---- the catalogue's places, filled from the front
 
@@ -149,3 +151,19 @@ pub small-end : (s : List ℕ) (at n i high : ℕ) → i ≤ n → n ≤ i → e
 small-end s at n i high h g =
     let z : n - i ≡ 0 = omega arith in
     rw z (and-true (eqb high 0))
+
+-- ---- the places of a catalogue
+
+module _ (numbers rounds offsets : List ℕ) (k n i : ℕ) (h : i < n) where
+  pub seek-stops : getD numbers i 0 ≡ k → seek numbers rounds offsets k i (n - i) ≡ Found (getD offsets i 0) (getD rounds i 0)
+  seek-stops e =
+      let z : n - i ≡ suc (n - (i + 1)) = omega arith in
+      rw (z, eq-eqb _ _ e)
+
+  pub seek-next : (getD numbers i 0 ≡ k → ⊥) → seek numbers rounds offsets k i (n - i) ≡ seek numbers rounds offsets k (i + 1) (n - (i + 1))
+  seek-next e =
+      let z : n - i ≡ suc (n - (i + 1)) = omega arith in
+      rw (z, ne-eqb _ _ e, add-one i)
+
+pub seek-end : (numbers rounds offsets : List ℕ) (k n i : ℕ) → n ≤ i → seek numbers rounds offsets k i (n - i) ≡ Missing
+seek-end numbers rounds offsets k n i h = let z : n - i ≡ 0 = omega arith in rw z
