@@ -8,7 +8,7 @@ use lib.Dec.{leb, ltb}
 use Rattle.laws.specs.Bits.{bit}
 use Rattle.films.specs.Layout.{Film, sizesOf}
 use Rattle.retrieval.specs.Schedule.{sends, helds}
-use Rattle.retrieval.specs.JustInTime.{justInTime}
+use Rattle.retrieval.specs.JustInTime.{justInTime, existsBy}
 use Rattle.model.specs.declared.Booking.{Booking}
 use Rattle.model.specs.declared.Request.{Request}
 
@@ -72,7 +72,7 @@ module _ (S : Setting) where
 
   -- "A schedule exists exactly if this gives A(0) ≤ b."
   unfoldable pub exists : Booking → Bool
-  exists b = leb (getD (scheduleOf b) 0 0) (b .reserve)
+  exists b = existsBy (b .reserve) (sending b)
 
   -- what it holds in round t with the read totals A
   abbrev pub heldAt : ℕ → Booking → List ℕ → ℕ

@@ -24,3 +24,4 @@ pub mod SoundTest
 pub mod ReportLaws
 pub mod UnreadLaws
 pub mod Safety
+pub mod Figures

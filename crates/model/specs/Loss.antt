@@ -1,9 +1,4 @@
--- What the claims use of the disk loss.
-use mathlib.Core.Path.{_≡_}
-use Prim.Native.Nat.{ℕ, _≤_}
-use Rattle.limits.specs.Bounds.{maxBookings}
-
--- loss(0) = 0, and no loss up to 256 is below the one before
-pub record Rising (loss : ℕ → ℕ) : Type 0 where
-  pub none : loss 0 ≡ 0
-  pub rises : (j k : ℕ) → j ≤ k → k ≤ maxBookings → loss j ≤ loss k
+-- The disk loss is an argument of the day's definitions. What the claims use of it is `Rising`: no loss with no film open, and one film
+-- more never loses less. The papers' table is `lossAt`, and it rises.
+pub use Rattle.loss.specs.Loss.{lossAt}
+pub use Rattle.loss.specs.Rising.{Rising, loss-rising}
