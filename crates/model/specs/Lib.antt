@@ -25,3 +25,5 @@ pub mod ReportLaws
 pub mod UnreadLaws
 pub mod Safety
 pub mod Figures
+pub mod Order
+pub mod Unchanged
