@@ -2,7 +2,7 @@
 use mathlib.Core.Path.{_≡_, refl}
 use mathlib.Core.Bool.{Bool, true, false, cond, _&&_}
 use mathlib.Core.List.{List, [], _∷_, _++_}
-use Prim.Native.Nat.{ℕ, suc, _<_}
+use Prim.Native.Nat.{ℕ, zero, suc, _<_}
 use native.Mathlib.Omega.{arith}
 
 -- does it hold?, and the number that a "no" gives
@@ -51,3 +51,28 @@ refusal-stands (q ∷ qs) rs k e = go (q .0) e (refusal-stands qs rs k)
 pub refusal-held : (b : Bool) (k : ℕ) (qs : List Question) → 0 < k → refusal ((b, k) ∷ qs) ≡ 0 → (b ≡ true) × (refusal qs ≡ 0)
 refusal-held true k qs h e = (refl, e)
 refusal-held false k qs h e = absurd (omega arith)
+
+-- ---- two lists of questions, one after the other
+
+-- the first number, or where it is 0 the second
+abbrev pub orElse : ℕ → ℕ → ℕ
+orElse zero n = n
+orElse (suc k) n = suc k
+
+-- a "no" gives a number, and not 0
+abbrev pub Numbered : List Question → Type 0
+Numbered [] = Unit {0}
+Numbered (q ∷ qs) = (q .0 ≡ false → 0 < q .1) × Numbered qs
+
+pub refusal-append : (qs rs : List Question) → Numbered qs → refusal (qs ++ rs) ≡ orElse (refusal qs) (refusal rs)
+refusal-append [] rs n = refl
+refusal-append (q ∷ qs) rs n = go (q .0) (n .0) (refusal-append qs rs (n .1))
+  where
+    number : (k : ℕ) → 0 < k → k ≡ orElse k (refusal rs)
+    number zero h = absurd (omega arith)
+    number (suc k) h = refl
+
+    go : (b : Bool) → (b ≡ false → 0 < q .1) → refusal (qs ++ rs) ≡ orElse (refusal qs) (refusal rs)
+        → cond b (refusal (qs ++ rs)) (q .1) ≡ orElse (cond b (refusal qs) (q .1)) (refusal rs)
+    go true h e = e
+    go false h e = number (q .1) (h refl)
