@@ -1,5 +1,8 @@
 //! Small cases decided by trying every schedule there is.
 
+use crate::plain_day::{disk_and_cabs_kept, Opening, Placed};
+use crate::schedule::{held, peak};
+
 /// Every schedule of what is sent and a reserve, by the definition of a schedule and nothing else: read totals that never
 /// fall, rise by at most the reserve, never underflow and end at the film's total.
 pub fn every_schedule(sends: &[u64], reserve: u64) -> Vec<Vec<u64>> {
@@ -31,7 +34,32 @@ pub fn least_reserve(sends: &[u64], cap: u64) -> Option<u64> {
     (0..=total).find(|&reserve| {
         every_schedule(sends, reserve)
             .iter()
-            .any(|reads| crate::schedule::peak(&crate::schedule::held(sends, reads)) <= cap)
+            .any(|reads| peak(&held(sends, reads)) <= cap)
+    })
+}
+
+/// "there are schedules, for this booking there and for each standing one at its own start, each with its own film, p and b,
+/// with which in every round of the day" disk, memory and cabs are kept: every choice of schedules is tried.
+pub fn fit(opening: &Opening, bookings: &[Placed]) -> bool {
+    let held = vec![0; opening.rounds as usize];
+    disk_and_cabs_kept(opening, bookings) && some_choice_fits(opening.memory, bookings, &held)
+}
+
+/// Whether schedules can be chosen for the bookings so that what they hold, on top of what is held already, keeps the limit.
+fn some_choice_fits(memory: u64, bookings: &[Placed], already: &[u64]) -> bool {
+    if already.iter().any(|&bytes| bytes > memory) {
+        return false;
+    }
+    let Some((booking, others)) = bookings.split_first() else {
+        return true;
+    };
+    let sends = booking.sends();
+    every_schedule(&sends, booking.reserve).iter().any(|reads| {
+        let mut sums = already.to_vec();
+        for (t, bytes) in held(&sends, reads).iter().enumerate() {
+            sums[booking.start as usize + t] += bytes;
+        }
+        some_choice_fits(memory, others, &sums)
     })
 }
 

@@ -6,8 +6,12 @@
 
 pub mod bounds;
 pub mod cases;
+pub mod console;
+pub mod day;
+pub mod desk;
 pub mod exhaustive;
 pub mod film_file;
 pub mod loss;
+pub mod plain_day;
 pub mod refusal;
 pub mod schedule;
