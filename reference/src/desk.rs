@@ -99,6 +99,18 @@ impl Load {
         limits && !self.cab_shows_two
     }
 
+    /// Whether limits and cabs are kept with one more booking, in the rounds in which it is open. In all others the load
+    /// stays as it is.
+    fn takes(&self, day: &Day, start: u64, stream: &Stream) -> bool {
+        (0..stream.rounds()).all(|t| {
+            let round = (start + t) as usize;
+            let shows = t >= stream.prefetch;
+            self.reserves[round] + stream.reserve + loss(self.open[round] + 1) <= day.disk
+                && self.held[round] + stream.held[t as usize] <= day.memory
+                && !(shows && self.cabs[round] & stream.cabs != 0)
+        })
+    }
+
     /// "works the sheet out from the bookings ... What stood there before counts for nothing. Places from T on are untouched."
     fn write_to(&self, sheet: &mut Sheet) {
         let rounds = self.open.len();
@@ -216,18 +228,15 @@ pub fn book(
     let place = day.count < MAX_BOOKINGS && day.count < records.len() as u64;
     ask(place, Refusal::NoPlace)?;
     // Does a start in the window fit?
-    let with_it = |start: u64| {
-        let mut load = standing.load.clone();
-        load.add(start, &stream);
-        load
-    };
     let found =
-        (request.first..=request.last).find(|&start| with_it(start).keeps_limits_and_cabs(day));
+        (request.first..=request.last).find(|&start| standing.load.takes(day, start, &stream));
     let Some(start) = found else {
         // "22 leaves the sheet of the bookings as they stand."
         standing.load.write_to(sheet);
         return Err(Refusal::NoFit);
     };
+    let mut load = standing.load;
+    load.add(start, &stream);
     records[day.count as usize] = Booking {
         name: request.name,
         film: request.film as u16,
@@ -237,7 +246,7 @@ pub fn book(
         cabs: request.cabs,
     };
     day.count += 1;
-    with_it(start).write_to(sheet);
+    load.write_to(sheet);
     Ok(start)
 }
 

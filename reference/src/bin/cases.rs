@@ -26,6 +26,7 @@ fn main() -> ExitCode {
     };
     let (script, output) = match family.as_str() {
         "films" => both(cases::films::script(), cases::films::run),
+        "desk" => both(cases::desk::script(), cases::desk::run),
         "schedules" => both(cases::schedules::script(), cases::schedules::run),
         _ => {
             eprintln!("cases: no family {family}");

@@ -5,6 +5,7 @@
 //! output is what the test program must print. The scripts' formats are in the folder's README.
 
 pub mod checksum;
+pub mod desk;
 pub mod file_buffer;
 pub mod films;
 pub mod random;
