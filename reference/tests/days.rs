@@ -8,6 +8,7 @@ use reference::film_file::{encode, Film};
 use reference::loss::loss;
 use reference::plain_day::{fit_just_in_time, Answer, Call, Decider, Opening, PlainDay};
 use reference::refusal::Refusal;
+use std::collections::BTreeMap;
 
 /// A day as the desk is lent it, call after call.
 struct Lent {
@@ -123,6 +124,21 @@ struct Met {
     no_fit: u64,
 }
 
+/// "the sends up to any line add up to at most the reads up to it. In every report the reads plus loss(number of lines) are at
+/// most D and the held at most M." The totals are what each standing booking has read and sent since it was accepted.
+fn report_is_safe(opening: &Opening, lines: &[Line], totals: &mut BTreeMap<u32, (u64, u64)>) {
+    let reads: u64 = lines.iter().map(|line| line.read).sum();
+    let held: u64 = lines.iter().map(|line| line.held).sum();
+    assert!(reads + loss(lines.len() as u64) <= opening.disk);
+    assert!(held <= opening.memory);
+    for line in lines {
+        let (read, sent) = totals.entry(line.name).or_default();
+        *read += line.read;
+        *sent += line.send;
+        assert!(*sent <= *read);
+    }
+}
+
 /// Runs drawn lists of calls on the desk and on the plain day; they must agree on every answer and at the end.
 fn compare(seed: u64, lists: u64, rounds: u64, size: u64, fit: Decider) -> Met {
     let mut random = Random::new(seed);
@@ -142,12 +158,22 @@ fn compare(seed: u64, lists: u64, rounds: u64, size: u64, fit: Decider) -> Met {
         let mut lent = Lent::open(&file, &opening, places, &mut random);
         let before = (lent.records.clone(), lent.sheet.clone());
         let mut plain = PlainDay::new(opening, &file, places as u64, fit);
+        let mut totals = BTreeMap::new();
         for _ in 0..25 {
             let call = drawn_call(&mut random, opening.rounds, size);
             let answer = plain.call(&call);
             assert_eq!(lent.call(&call), answer);
             if let (Call::Book(request), Answer::Booked(start)) = (&call, &answer) {
                 met.later += u64::from(*start > request.first);
+            }
+            match (&call, &answer) {
+                (Call::Drop(name), Answer::Dropped) => {
+                    totals.remove(name);
+                }
+                (Call::Play(_), Answer::Played { lines, .. }) => {
+                    report_is_safe(&opening, lines, &mut totals);
+                }
+                _ => {}
             }
             met.no_fit += u64::from(answer == Answer::Refused(Refusal::NoFit));
         }

@@ -11,3 +11,4 @@ pub mod films;
 pub mod random;
 pub mod schedules;
 pub mod script;
+pub mod sessions;

@@ -280,9 +280,8 @@ mod tests {
             .lines()
             .filter_map(|line| line.split(' ').next())
             .collect();
-        for refusal in [
-            0, 1, 8, 9, 10, 11, 12, 14, 15, 16, 17, 18, 19, 20, 21, 22, 23,
-        ] {
+        let of_schedules_only = 13;
+        for refusal in (0..=23).filter(|&refusal| refusal != of_schedules_only) {
             assert!(answers.contains(refusal.to_string().as_str()), "{refusal}");
         }
     }

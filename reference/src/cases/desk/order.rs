@@ -167,7 +167,39 @@ pub fn every_pair_of_questions(recorder: &mut Recorder) {
             }
         }
     }
+    refused_files(recorder);
     wide_numbers(recorder);
+}
+
+/// Each refusal of the film file comes before everything else, on a good day and on one of no rounds.
+fn refused_files(recorder: &mut Recorder) {
+    let file = encode(&films());
+    // The bytes that F, the second number, the first round count, S and the last byte of a size stand at.
+    for (position, value) in [(0, 0), (6, 1), (4, 0), (10, 7), (17, 1)] {
+        for rounds in [30, 0] {
+            let request = lay(recorder);
+            let day = recorder.lent().day;
+            recorder.buffer(|script| {
+                script.poke(position, value);
+            });
+            recorder.day(Day { rounds, ..day });
+            recorder.book(request);
+            recorder.drop_booking(1);
+            recorder.play();
+            recorder.buffer(|script| {
+                script.poke(position, file[position]);
+            });
+        }
+    }
+    for length in [0, 1, file.len() - 1] {
+        let request = lay(recorder);
+        recorder.buffer(|script| {
+            script.len(length);
+        });
+        recorder.book(request);
+        recorder.drop_booking(1);
+        recorder.play();
+    }
 }
 
 /// Each number of a request beyond its field, each of its own question: none may wrap into another number.
