@@ -7,7 +7,7 @@ use crate::day::{Booking, Day, Line, Played, Request, Sheet};
 use crate::film_file::{decode, find, Film};
 use crate::loss::loss;
 use crate::refusal::{ask, Refusal};
-use crate::schedule::{before, exists, held, just_in_time, sends, totals};
+use crate::schedule::{before, exists, held, just_in_time, sends};
 
 /// A booking that has passed 8, 9, 10, 20 and 12, with what it reads, sends and holds in each of its rounds.
 #[derive(Clone, Debug)]
@@ -45,6 +45,16 @@ impl Stream {
             sends,
             held,
         })
+    }
+
+    /// Its report line in round t from its start.
+    fn line(&self, name: u32, t: usize) -> Line {
+        Line {
+            name,
+            read: self.reads[t] - before(&self.reads, t),
+            send: self.sends[t],
+            held: self.held[t],
+        }
     }
 
     /// Its number of rounds, p+n.
@@ -197,23 +207,19 @@ pub fn open(
     Ok(())
 }
 
-/// Booking: the file's questions, 14, 15, 11, 16, 18, 8, 9, 10, 20, 12, 21, 17, 22. The answer is the start.
-pub fn book(
-    file: &[u8],
-    day: &mut Day,
-    records: &mut [Booking],
-    sheet: &mut Sheet,
+/// A booking's own questions: 18, 8, 9, 10, 20, 12, 21, 17.
+fn ask_request(
+    films: &[Film],
+    day: &Day,
+    records: &[Booking],
     request: &Request,
-) -> Result<u64, Refusal> {
-    let films = decode(file)?;
-    ask_day(day)?;
-    ask_sheet(day, sheet)?;
-    let standing = ask_list(&films, day, records)?;
+) -> Result<Stream, Refusal> {
     // Is the name new?
-    let mut names = standing.bookings.iter().map(|(booking, _)| booking.name);
-    ask(names.all(|name| name != request.name), Refusal::NameTaken)?;
+    let mut standing = records[..day.count as usize].iter();
+    let new = standing.all(|booking| booking.name != request.name);
+    ask(new, Refusal::NameTaken)?;
     let stream = Stream::new(
-        &films,
+        films,
         request.film,
         request.prefetch,
         request.reserve,
@@ -227,6 +233,22 @@ pub fn book(
     // Is there a place below both 256 and the list's length?
     let place = day.count < MAX_BOOKINGS && day.count < records.len() as u64;
     ask(place, Refusal::NoPlace)?;
+    Ok(stream)
+}
+
+/// Booking: the file's questions, 14, 15, 11, 16, 18, 8, 9, 10, 20, 12, 21, 17, 22. The answer is the start.
+pub fn book(
+    file: &[u8],
+    day: &mut Day,
+    records: &mut [Booking],
+    sheet: &mut Sheet,
+    request: &Request,
+) -> Result<u64, Refusal> {
+    let films = decode(file)?;
+    ask_day(day)?;
+    ask_sheet(day, sheet)?;
+    let standing = ask_list(&films, day, records)?;
+    let stream = ask_request(&films, day, records, request)?;
     // Does a start in the window fit?
     let found =
         (request.first..=request.last).find(|&start| standing.load.takes(day, start, &stream));
@@ -300,19 +322,10 @@ pub fn play(
     let mut cabs = 0;
     for (booking, stream) in &standing.bookings {
         let start = u64::from(booking.start);
-        if !(start..start + stream.rounds()).contains(&day.now) {
-            continue;
-        }
-        let t = (day.now - start) as usize;
-        let sent = totals(&stream.sends);
-        lines.push(Line {
-            name: booking.name,
-            read: stream.reads[t] - before(&stream.reads, t),
-            send: sent[t] - before(&sent, t),
-            held: stream.held[t],
-        });
-        if day.now >= start + stream.prefetch {
-            cabs |= stream.cabs;
+        if start <= day.now && day.now < start + stream.rounds() {
+            let t = day.now - start;
+            lines.push(stream.line(booking.name, t as usize));
+            cabs |= if t >= stream.prefetch { stream.cabs } else { 0 };
         }
     }
     // Does the report take every open film?
