@@ -9,3 +9,6 @@ pub mod Lookup
 pub mod SizeLaws
 pub mod Accepted
 pub mod FilmLaws
+pub mod Decoded
+pub mod Encoded
+pub mod Theorems
