@@ -114,12 +114,3 @@ part-no s r h e z = go (eqb (refusal (entryQuestions s 0 (filmsIn s))) 0) refl e
     go false q f =
         ap (λ x. x .catalogue) f
         ∙ sym (entries-no s (refusal (entryQuestions s 0 (filmsIn s))) (eqb-false _ _ q) h refl)
-
--- the verdict stands in the catalogue
-pub catalogue-verdict : (s : List ℕ) → catalogueOf s .verdict ≡ verdict s
-unfolding catalogueOf listed unlisted
-catalogue-verdict s = go (eqb (verdict s) 0) refl
-  where
-    go : (b : Bool) → eqb (verdict s) 0 ≡ b → cond b (listed s) (unlisted (verdict s)) .verdict ≡ verdict s
-    go true e = sym (eqb-true _ _ e)
-    go false e = refl

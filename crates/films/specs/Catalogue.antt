@@ -1,9 +1,10 @@
 -- The catalogue of a file: what later calls look films up in, without reading the file again.
-use mathlib.Core.Path.{_≡_, refl, ap, _∙_}
-use mathlib.Core.Bool.{cond, _&&_}
+use mathlib.Core.Path.{_≡_, refl, sym, ap, _∙_}
+use mathlib.Core.Bool.{Bool, true, false, cond, _&&_}
 use mathlib.Core.List.{List, [], _∷_, _++_}
 use Prim.Native.Nat.{ℕ, _+_, _-_, _<_}
 use native.Mathlib.Omega.{arith}
+use borrow.Author.Tests.{eqb-true}
 use lib.ListN.{length, getD, replicate, List·getD-append}
 use lib.Dec.{leb, eqb}
 use Rattle.limits.specs.Bounds.{maxFilms, maxRounds}
@@ -78,3 +79,12 @@ listed-rounds s i h = places-at (entryRounds s) (filmsIn s) i h
 pub listed-offset : (s : List ℕ) (i : ℕ) → i < filmsIn s → getD (listed s .offsets) i 0 ≡ offset s i
 unfolding listed
 listed-offset s i h = places-at (offset s) (filmsIn s) i h
+
+-- the verdict stands in the catalogue
+pub catalogue-verdict : (s : List ℕ) → catalogueOf s .verdict ≡ verdict s
+unfolding catalogueOf listed unlisted
+catalogue-verdict s = go (eqb (verdict s) 0) refl
+  where
+    go : (b : Bool) → eqb (verdict s) 0 ≡ b → cond b (listed s) (unlisted (verdict s)) .verdict ≡ verdict s
+    go true e = sym (eqb-true _ _ e)
+    go false e = refl

@@ -87,3 +87,10 @@ unfolding filmsOf catalogueOf
 lookup-says s e k =
     let a = accepted s e in
     rw (eq-eqb _ _ e, ← lookup-listed s a k) (says-part s k (among s k 0 (filmsIn s)) (seek-says s a k 0 (filmsIn s) (omega arith)))
+
+-- .. by each answer
+pub says-found : (s : List ℕ) → verdict s ≡ 0 → (k at n : ℕ) → lookupIn (catalogueOf s) k ≡ Found at n → FoundAt s k at n
+says-found s e k at n q = rw q at (lookup-says s e k)
+
+pub says-missing : (s : List ℕ) → verdict s ≡ 0 → (k : ℕ) → lookupIn (catalogueOf s) k ≡ Missing → inFile (filmsOf s) k ≡ false
+says-missing s e k q = rw q at (lookup-says s e k)

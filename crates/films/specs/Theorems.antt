@@ -1,18 +1,17 @@
 -- Demand 2: "The film reader accepts exactly the files of the stated layout.", and what an accepted file's sizes and length are
 -- at most. Assumes nothing.
-use Prim.Native.Nat.{ℕ, suc, _+_, _*_, _^_, _<_, _≤_}
+use Prim.Native.Nat.{ℕ, suc, _*_, _^_, _<_, _≤_}
 use mathlib.Core.Path.{_≡_, refl, sym, ap, _∙_}
 use mathlib.Core.List.{List, [], _∷_}
 use native.Mathlib.Omega.{arith}
 use native.Mathlib.Nat.{mul-suc}
 use lib.ListN.{length, getD}
 use Rattle.laws.specs.Words.{Bytes}
-use Rattle.limits.specs.Bounds.{maxFilms, maxRounds, maxSize}
-use Rattle.films.specs.Layout.{Film, rounds, encode, roundSum, ValidFilm, Valid}
-use Rattle.films.specs.Questions.{verdict, filmsIn, roundsBefore}
+use Rattle.limits.specs.Bounds.{maxSize}
+use Rattle.films.specs.Layout.{Film, encode, total, ValidFilm, Valid}
+use Rattle.films.specs.Questions.{verdict}
 use Rattle.films.specs.Decode.{filmsOf}
 use Rattle.films.specs.Accepted.{accepted, acceptance}
-use Rattle.films.specs.FilmLaws.{rounds-few}
 use Rattle.films.specs.Decoded.{decoded, decoded-valid}
 use Rattle.films.specs.Encoded.{encoded, encoded-films, length-encode, sum-bound}
 
@@ -38,11 +37,6 @@ pub unique : (fs gs : List Film) → Valid fs → Valid gs → encode fs ≡ enc
 unique fs gs v w e = sym (encoded-films (encode fs) fs v refl) ∙ encoded-films (encode fs) gs w e
 
 -- ---- bounds
-
--- bytes in all
-abbrev pub total : List ℕ → ℕ
-total [] = 0
-total (x ∷ xs) = x + total xs
 
 pub total-bound : (xs : List ℕ) (m : ℕ) → ((i : ℕ) → getD xs i 0 ≤ m) → total xs ≤ m * length xs
 total-bound [] m h = omega arith

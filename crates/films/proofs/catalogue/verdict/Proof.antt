@@ -1,6 +1,6 @@
 -- `films::catalogue::verdict` meets its contract: the catalogue holds the verdict. Assumes nothing.
 use mathlib.Core.Path.{_≡_, ap, _∙_}
-use Rattle.films.proofs.Stages.{catalogue-verdict}
+use Rattle.films.specs.Catalogue.{catalogue-verdict}
 use borrow.Author.Needs.{needs}
 use Rattle.films.proofs.catalogue.verdict.Statement.{statement}
 use Rattle.films.proofs.catalogue.verdict.Tie as tie

@@ -1,0 +1,62 @@
+-- `reader::cursor::next` meets its contract: one of the three cases of a step. Assumes nothing.
+use mathlib.Core.Path.{_≡_, sym, _∙_}
+use native.Mathlib.Omega.{arith}
+use Rattle.reader.specs.ReaderLaws.{step-refused, step-film, step-end}
+use borrow.Author.Needs.{needs}
+use Rattle.reader.proofs.cursor.next.Statement.{statement}
+use Rattle.reader.proofs.cursor.next.Tie as tie
+
+returns : tie.Need-returns
+returns c = sym (step-refused (c .before .before .args .file .now) (c .before .before .args .reader) (c .if1 .taken))
+
+half-or-zero-requires : tie.Need-half-or-zero-requires
+half-or-zero-requires c κs = search needs
+
+cast-count : tie.Need-cast-count
+cast-count c = search needs
+
+returns-2 : tie.Need-returns-2
+returns-2 c = sym (step-end (c .before .before .before .before .args .file .now) (c .before .before .before .before .args .reader) (c .before .before .if1 .left) (omega arith))
+
+mul-half-or-zero : tie.Need-mul-half-or-zero
+mul-half-or-zero c = search needs
+
+add-half-or-zero : tie.Need-add-half-or-zero
+add-half-or-zero c = search needs
+
+half-or-zero-requires-2 : tie.Need-half-or-zero-requires-2
+half-or-zero-requires-2 c κs = search needs
+
+mul-half-or-zero-2 : tie.Need-mul-half-or-zero-2
+mul-half-or-zero-2 c = search needs
+
+add-half-or-zero-2 : tie.Need-add-half-or-zero-2
+add-half-or-zero-2 c = search needs
+
+half-or-zero-requires-3 : tie.Need-half-or-zero-requires-3
+half-or-zero-requires-3 c κs = search needs
+
+add-t12 : tie.Need-add-t12
+add-t12 c = search needs
+
+returns-3 : tie.Need-returns-3
+returns-3 c =
+    let a = c .before .before .before .before .before .before .args in
+    rw (c .before .half-or-zero2 .ensures, c .half-or-zero3 .ensures) (sym (step-film (a .file .now) (a .reader) (c .before .before .before .before .if1 .left) (omega arith)))
+
+pub next-spec : {M : Type 1} → statement M
+next-spec =
+    tie.close
+    (tie.spec
+    returns
+    half-or-zero-requires
+    cast-count
+    returns-2
+    mul-half-or-zero
+    add-half-or-zero
+    half-or-zero-requires-2
+    mul-half-or-zero-2
+    add-half-or-zero-2
+    half-or-zero-requires-3
+    add-t12
+    returns-3)

@@ -1,0 +1,72 @@
+-- `reader::summary::summary` meets its contract: by the catalogue's verdict and the lookup's answer. Assumes nothing.
+use mathlib.Core.Path.{_≡_, sym, ap, _∙_}
+use Rattle.films.specs.Questions.{verdict}
+use Rattle.films.specs.Catalogue.{catalogueOf, catalogue-verdict}
+use Rattle.films.specs.Lookup.{lookupIn, FoundAt, says-found, says-missing}
+use Rattle.reader.specs.Summary.{figuresOf}
+use Rattle.reader.specs.SummaryLaws.{summary-refused, summary-missing, summary-found}
+use borrow.Author.Needs.{needs}
+use Rattle.reader.proofs.summary.summary.Statement.{statement}
+use Rattle.reader.proofs.summary.summary.Tie as tie
+
+-- the catalogue's verdict is the file's
+verdict-is : (c : tie.After-catalogue) → c .catalogue .result .verdict ≡ verdict (c .before .before .args .file .now)
+verdict-is c = ap (λ r. r .verdict) (c .catalogue .ensures) ∙ catalogue-verdict (c .before .before .args .file .now)
+
+accepted : (c : tie.Else1) → verdict (c .before .before .before .args .file .now) ≡ 0
+accepted c = sym (verdict-is (c .before)) ∙ c .if1 .left
+
+-- the lookup was in the file's catalogue
+looked : (c : tie.After-lookup) → let a = c .before .before .before .before .args in c .lookup .result ≡ lookupIn (catalogueOf (a .file .now)) (a .film)
+looked c = c .lookup .ensures ∙ ap (λ r. lookupIn r (c .before .before .before .before .args .film)) (c .before .before .catalogue .ensures)
+
+found : (c : tie.After-found) → let a = c .before .before .before .before .before .before .args in FoundAt (a .file .now) (a .film) (c .found .given .0 .0) (c .found .given .0 .1 .0)
+found c =
+    let a = c .before .before .before .before .before .before .args in
+    says-found (a .file .now) (accepted (c .before .before .before)) (a .film) (c .found .given .0 .0) (c .found .given .0 .1 .0) (sym (looked (c .before .before)) ∙ c .found .given .1)
+
+catalogue-requires : tie.Need-catalogue-requires
+catalogue-requires c κs = search needs
+
+returns : tie.Need-returns
+returns c =
+    let a = c .before .before .before .args in
+    let e = verdict-is (c .before) in
+    rw e (sym (summary-refused (a .file .now) (a .film) (λ z. c .if1 .taken (e ∙ z))))
+
+lookup-requires : tie.Need-lookup-requires
+lookup-requires c κs = search needs
+
+enum-known-found : tie.Need-enum-known-found
+enum-known-found c = search needs
+
+figures-requires : tie.Need-figures-requires
+figures-requires c κs = let f = found (c .before) in (f .stored, f .some)
+
+enum-told : tie.Need-enum-told
+enum-told c = search needs
+
+returns-2 : tie.Need-returns-2
+returns-2 c =
+    let a = c .before .before .before .before .before .before .before .before .args in
+    let f = found (c .before .before) in
+    c .figures .ensures ∙ ap figuresOf (sym (f .are)) ∙ sym (summary-found (a .file .now) (a .film) (accepted (c .before .before .before .before .before)) (f .inside))
+
+returns-3 : tie.Need-returns-3
+returns-3 c =
+    let a = c .before .before .before .before .before .before .args in
+    let e = accepted (c .before .before .before) in
+    sym (summary-missing (a .file .now) (a .film) e (says-missing (a .file .now) e (a .film) (sym (looked (c .before .before)) ∙ c .enum-told .given .1)))
+
+pub summary-spec : {M : Type 1} → statement M
+summary-spec =
+    tie.close
+    (tie.spec
+    catalogue-requires
+    returns
+    lookup-requires
+    enum-known-found
+    figures-requires
+    enum-told
+    returns-2
+    returns-3)
