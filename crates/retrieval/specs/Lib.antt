@@ -5,6 +5,7 @@ pub mod Schedule
 pub mod JustInTime
 pub mod LeastReserve
 pub mod Carry
+pub mod Tests
 pub mod CarryLaws
 pub mod Minimality
 pub mod ReserveLaws
@@ -15,3 +16,4 @@ pub mod Sheet
 pub mod SheetLaws
 pub mod Theorems
 pub mod Figures
+pub mod Written

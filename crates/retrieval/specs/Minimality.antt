@@ -1,7 +1,7 @@
 -- The just-in-time list is a schedule wherever there is one, and no schedule has less in any round. Assumes nothing.
 use mathlib.Core.Path.{_≡_, refl, sym, ap, _∙_}
 use mathlib.Core.Logic.{_↔_}
-use mathlib.Core.Bool.{Bool, true, false}
+use mathlib.Core.Bool.{true}
 use mathlib.Core.List.{List, [], _∷_}
 use Prim.Native.Nat.{ℕ, zero, suc, _+_, _-_, _*_, _≤_, _<_, max, suc-le-suc}
 use native.Mathlib.Nat.{suc-inj, zero-lt-suc, not-suc-le-zero, le-of-suc-le-suc, suc-mul, suc-ne-zero}
@@ -9,6 +9,7 @@ use native.Mathlib.Omega.{arith}
 use borrow.Author.Tests.{leb-true, le-leb, eqb-true, eq-eqb}
 use lib.ListN.{length, getD}
 use lib.Dec.{eqb}
+use Rattle.retrieval.specs.Tests.{same-test}
 use Rattle.retrieval.specs.Schedule.{sum, largest, totals, Reads, Schedule, helds}
 use Rattle.retrieval.specs.JustInTime.{due, justInTime, existsBy}
 use Rattle.retrieval.specs.Carry.{carry, profile}
@@ -148,13 +149,8 @@ existsBy-iff b xs = (λ e. exists-iff b xs .1 (existsBy-carry b xs .0 e), λ v. 
 -- as the code tests it, where k is the carry
 pub existsBy-test : (b k : ℕ) (xs : List ℕ) → k ≡ carry b xs → eqb k 0 ≡ existsBy b xs
 existsBy-test b k xs q =
-    same (eqb k 0) (existsBy b xs) (λ e. existsBy-carry b xs .1 (sym q ∙ eqb-true k 0 e))
+    same-test (eqb k 0) (existsBy b xs) (λ e. existsBy-carry b xs .1 (sym q ∙ eqb-true k 0 e))
     (λ e. eq-eqb k 0 (q ∙ existsBy-carry b xs .0 e))
-  where
-    same : (a c : Bool) → (a ≡ true → c ≡ true) → (c ≡ true → a ≡ true) → a ≡ c
-    same true c f g = sym (f refl)
-    same false true f g = g refl
-    same false false f g = refl
 
 -- the carry is at most k exactly if b for each round and k ahead of them are enough up to every round
 pub carry-paced : (b k c : ℕ) (xs : List ℕ) → carry b xs ≤ k

@@ -1,5 +1,5 @@
 -- Reserves that serve a film within a memory cap, and the least of them. Assumes nothing.
-use mathlib.Core.Path.{_≡_, refl, sym}
+use mathlib.Core.Path.{_≡_, refl, sym, _∙_}
 use mathlib.Core.Logic.{_↔_}
 use mathlib.Core.Bool.{Bool, true, false, _&&_, not, true≢false}
 use mathlib.Core.List.{List, [], _∷_}
@@ -10,11 +10,12 @@ use borrow.Author.Tests.{leb-true, le-leb}
 use lib.ListN.{getD}
 use lib.Dec.{leb}
 use Rattle.laws.specs.Tests.{left, right, join}
+use Rattle.retrieval.specs.Tests.{same-test, test-false}
 use Rattle.retrieval.specs.Schedule.{sends, largest, Schedule, helds, peak}
 use Rattle.retrieval.specs.JustInTime.{justInTime, existsBy}
 use Rattle.retrieval.specs.LeastReserve.{Serves, Least}
 use Rattle.retrieval.specs.Carry.{carry, profile}
-use Rattle.retrieval.specs.CarryLaws.{justInTime-helds, prefetch, prefetch-peak, prefetch-largest, carry-mono, peak-mono, large-carry, large-profile, largest-peak}
+use Rattle.retrieval.specs.CarryLaws.{justInTime-helds, prefetch, prefetch-peak, prefetch-largest, carry-mono, peak-mono, large-carry, large-profile, largest-peak, getD-largest}
 use Rattle.retrieval.specs.Minimality.{justInTime-schedule, schedule-carry, reads-peak, existsBy-carry}
 
 -- a schedule with a peak of at most cap exists exactly if the just-in-time one is such
@@ -110,6 +111,28 @@ servesBy-iff xs cap b = (
   λ v. let u = serves-iff xs cap b .0 v in
       join (existsBy-carry b xs .1 (u .0)) (le-leb (peak xs (justInTime b 0 xs)) cap (rw (justInTime-helds b 0 xs) (u .1))),
 )
+
+-- what an answer r of the test says
+pub servesBy-yes : (r : Bool) (xs : List ℕ) (cap b : ℕ) → r ≡ servesBy xs cap b → r ≡ true → Serves xs cap b
+servesBy-yes r xs cap b e t = servesBy-iff xs cap b .0 (sym e ∙ t)
+
+pub servesBy-no : (r : Bool) (xs : List ℕ) (cap b : ℕ) → r ≡ servesBy xs cap b → r ≡ false → Serves xs cap b → ⊥
+servesBy-no r xs cap b e f v = true≢false (sym (e ∙ servesBy-iff xs cap b .1 v) ∙ f)
+
+-- as the code tests it: some round holds more than the cap,
+pub servesBy-over : (p cap b t : ℕ) (xs : List ℕ) → cap < getD (profile b xs) t 0 → servesBy (sends p xs) cap b ≡ false
+servesBy-over p cap b t xs h =
+    test-false (servesBy (sends p xs) cap b)
+    (λ e. omega (arith, film-serves xs p cap b .0 (servesBy-iff (sends p xs) cap b .0 e), getD-largest (profile b xs) t))
+
+-- or none does, and c is the carry of the sizes
+pub servesBy-test : (p cap b c : ℕ) (xs : List ℕ) → largest (profile b xs) ≤ cap → c ≡ carry b xs
+    → leb c (p * b) ≡ servesBy (sends p xs) cap b
+servesBy-test p cap b c xs h q =
+    let i = servesBy-iff (sends p xs) cap b in
+    let f = film-serves xs p cap b in
+    same-test (leb c (p * b)) (servesBy (sends p xs) cap b) (λ e. i .1 (f .1 (omega (arith, leb-true c (p * b) e))))
+    (λ e. le-leb c (p * b) (omega (arith, f .0 (i .0 e))))
 
 -- and is the smallest that has
 abbrev pub leastBy : List ℕ → ℕ → ℕ → Bool

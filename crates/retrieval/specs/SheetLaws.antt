@@ -154,3 +154,8 @@ pub onto-write : (s rs : List ℕ) → length rs ≤ length s → onto (λ x r. 
 onto-write s [] h = onto-nil (λ x r. r) s
 onto-write [] (r ∷ rs) h = absurd (not-suc-le-zero h)
 onto-write (x ∷ s) (r ∷ rs) h = ap (λ (l : List ℕ). r ∷ l) (onto-write s rs (le-of-suc-le-suc h))
+
+-- the whole of it, where the list has m places
+pub written : (m : ℕ) (rs s out : List ℕ) → length rs ≡ m → m ≤ length s → out ≡ onto (λ x r. r) s rs → out ≡ rs ++ drop m s
+written m rs s out l h e =
+    e ∙ onto-write s rs (omega arith) ∙ ap (λ (k : ℕ). rs ++ drop k s) l

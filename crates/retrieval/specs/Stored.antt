@@ -9,7 +9,7 @@ use Rattle.limits.specs.Bounds.{maxRounds, maxSize, maxPrefetch, maxReserve}
 use Rattle.films.specs.Sizes.{size, sizes, Stored}
 use Rattle.retrieval.specs.Schedule.{sends, largest}
 use Rattle.retrieval.specs.Carry.{carry, profile}
-use Rattle.retrieval.specs.CarryLaws.{carry-drop, profile-at, peak-drop, profile-bound, prefetch-peak, getD-largest}
+use Rattle.retrieval.specs.CarryLaws.{carry-drop, profile-at, peak-drop, largest-drop, profile-bound, prefetch-peak, getD-largest}
 
 -- what a film sends in each of its rounds, p of pre-fetch and then one for each of its n sizes, which stand at an offset
 abbrev pub sendsAt : List ℕ → ℕ → ℕ → ℕ → List ℕ
@@ -97,6 +97,14 @@ turn-peak b (suc k) c x xs h l ec ex =
     let e : suc k - 1 ≡ k = omega arith in
     let ex′ : x ≡ getD xs k 0 = rw e at ex in
     rw e (omega (arith, peak-drop b xs k l))
+
+pub turn-largest : (k x : ℕ) (xs : List ℕ) → 0 < k → k ≤ length xs → x ≡ getD xs (k - 1) 0
+    → max (largest (drop k xs)) x ≡ largest (drop (k - 1) xs)
+turn-largest zero x xs h l ex = absurd (not-suc-le-zero h)
+turn-largest (suc k) x xs h l ex =
+    let e : suc k - 1 ≡ k = omega arith in
+    let ex′ : x ≡ getD xs k 0 = rw e at ex in
+    rw e (omega (arith, largest-drop xs k l))
 
 -- ---- what a film holds
 

@@ -1,4 +1,7 @@
 // Read schedules of films: existence, peak, what is held, one round.
+pub mod reserves;
+pub mod schedules;
+
 ghost use mathlib.Core.Path.{_≡_};
 ghost use Prim.Native.Nat.{_+_, _-_, _*_, _≤_, _<_, min, max};
 ghost use lib.ListN.{length, getD, drop};

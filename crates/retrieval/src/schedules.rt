@@ -1,0 +1,46 @@
+// The just-in-time totals of a film, written to a lent list.
+ghost use mathlib.Core.Path.{_≡_};
+ghost use mathlib.Core.List.{_++_};
+ghost use Prim.Native.Nat.{_+_, _≤_};
+ghost use lib.ListN.{length, drop};
+ghost use Rattle.limits.specs.Bounds.{maxSize};
+ghost use Rattle.films.specs.Sizes.{sizes, Stored};
+ghost use Rattle.retrieval.specs.Schedule.{sum};
+ghost use Rattle.retrieval.specs.JustInTime.{justInTime};
+ghost use Rattle.retrieval.specs.Stored.{sendsAt, InRange, maxHeld};
+ghost use Rattle.retrieval.specs.Written.{Writes};
+use crate::larger;
+use crate::less;
+use crate::send_at;
+use crate::size_at;
+
+// The film's total: the sum of its n sizes.
+fn total(file: &[u8], at: usize, n: usize) -> u64
+    requires { ⌜ Stored (now file) at n ⌝ }
+    ensures { λ r. ⌜ (r ≡ sum (sizes (now (file .entry)) at n)) × (r ≤ maxHeld) ⌝ }
+{
+    let mut bytes: u64 = 0;
+    let mut i = n;
+    while 0 < i {
+        i -= 1;
+        bytes += size_at(file, at + 4 * i);
+    }
+    bytes
+}
+
+// Writes the just-in-time totals of a film to the first p + n places of the list, by the paper's recursion from the last round
+// backward: `sent` is what the film has sent by the end of a round, `due` the total after it.
+fn write_totals(out: &mut [u64], file: &[u8], at: usize, n: usize, p: usize, b: u64)
+    requires { ⌜ Writes (now out) (now file) at n p b ⌝ }
+    ensures { λ _. ⌜ now (out .exit) ≡ justInTime b 0 (sendsAt (now (file .entry)) at n p) ++ drop (p + n) (now (out .entry)) ⌝ }
+{
+    let mut sent = total(file, at, n);
+    let mut due = sent;
+    let mut k = p + n;
+    while 0 < k {
+        k -= 1;
+        due = larger(sent, less(due, b));
+        out[k] = due;
+        sent -= send_at(file, at, n, p, k);
+    }
+}
