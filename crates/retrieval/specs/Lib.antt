@@ -17,3 +17,4 @@ pub mod SheetLaws
 pub mod Theorems
 pub mod Figures
 pub mod Written
+pub mod Answers

@@ -1,7 +1,7 @@
 -- Reserves that serve a film within a memory cap, and the least of them. Assumes nothing.
 use mathlib.Core.Path.{_≡_, refl, sym, _∙_}
 use mathlib.Core.Logic.{_↔_}
-use mathlib.Core.Bool.{Bool, true, false, _&&_, not, true≢false}
+use mathlib.Core.Bool.{Bool, true, false, _&&_, not, cond, true≢false}
 use mathlib.Core.List.{List, [], _∷_}
 use Prim.Native.Nat.{ℕ, zero, suc, _+_, _*_, _≤_, _<_}
 use native.Mathlib.Decide.{decLe}
@@ -13,7 +13,7 @@ use Rattle.laws.specs.Tests.{left, right, join}
 use Rattle.retrieval.specs.Tests.{same-test, test-false}
 use Rattle.retrieval.specs.Schedule.{sends, largest, Schedule, helds, peak}
 use Rattle.retrieval.specs.JustInTime.{justInTime, existsBy}
-use Rattle.retrieval.specs.LeastReserve.{Serves, Least}
+use Rattle.retrieval.specs.LeastReserve.{Serves, Least, servesBy, leastBy, firstFrom, leastReserve}
 use Rattle.retrieval.specs.Carry.{carry, profile}
 use Rattle.retrieval.specs.CarryLaws.{justInTime-helds, prefetch, prefetch-peak, prefetch-largest, carry-mono, peak-mono, large-carry, large-profile, largest-peak, getD-largest}
 use Rattle.retrieval.specs.Minimality.{justInTime-schedule, schedule-carry, reads-peak, existsBy-carry}
@@ -98,11 +98,7 @@ least-exists p cap xs = (
 pub least-bound : (p cap b : ℕ) (xs : List ℕ) → Least (sends p xs) cap b → b ≤ largest xs
 least-bound p cap b xs l = l .least (largest xs) (largest-serves p cap xs (least-exists p cap xs .0 (b, l)))
 
--- ---- the same as tests, for figures
-
--- b has a schedule with peak at most the cap
-abbrev pub servesBy : List ℕ → ℕ → ℕ → Bool
-servesBy xs cap b = existsBy b xs && leb (peak xs (justInTime b 0 xs)) cap
+-- ---- the same as tests
 
 pub servesBy-iff : (xs : List ℕ) (cap b : ℕ) → (servesBy xs cap b ≡ true) ↔ Serves xs cap b
 servesBy-iff xs cap b = (
@@ -134,11 +130,6 @@ servesBy-test p cap b c xs h q =
     same-test (leb c (p * b)) (servesBy (sends p xs) cap b) (λ e. i .1 (f .1 (omega (arith, leb-true c (p * b) e))))
     (λ e. le-leb c (p * b) (omega (arith, f .0 (i .0 e))))
 
--- and is the smallest that has
-abbrev pub leastBy : List ℕ → ℕ → ℕ → Bool
-leastBy xs cap zero = servesBy xs cap 0
-leastBy xs cap (suc b) = servesBy xs cap (suc b) && not (servesBy xs cap b)
-
 pub leastBy-least : (xs : List ℕ) (cap b : ℕ) → leastBy xs cap b ≡ true → Least xs cap b
 leastBy-least xs cap zero e = record { serves = servesBy-iff xs cap 0 .0 e; least = λ b′ w. omega arith }
 leastBy-least xs cap (suc b) e =
@@ -160,3 +151,25 @@ least-leastBy xs cap (suc b) l =
     unless : (a : Bool) → (a ≡ true → ⊥) → not a ≡ true
     unless true f = absurd (f refl)
     unless false f = refl
+
+-- ---- the least reserve as a number
+
+-- where nothing below b serves and b + k does, the first is the least
+first-least : (xs : List ℕ) (cap b k : ℕ) → ((b′ : ℕ) → Serves xs cap b′ → b ≤ b′) → Serves xs cap (b + k)
+    → Least xs cap (firstFrom (servesBy xs cap) b k)
+first-least xs cap b zero f v = let e : b + 0 ≡ b = omega arith in record { serves = rw e at v; least = f }
+first-least xs cap b (suc k) f v = pick (servesBy xs cap b) refl (λ g. first-least xs cap (suc b) k g (rw d at v))
+  where
+    d : b + suc k ≡ suc b + k
+    d = omega arith
+    pick : (t : Bool) → servesBy xs cap b ≡ t
+        → (((b′ : ℕ) → Serves xs cap b′ → suc b ≤ b′) → Least xs cap (firstFrom (servesBy xs cap) (suc b) k))
+        → Least xs cap (cond t b (firstFrom (servesBy xs cap) (suc b) k))
+    pick true e g = record { serves = servesBy-iff xs cap b .0 e; least = f }
+    pick false e g = g (λ b′ w. omega (arith, serves-above xs cap b (servesBy-no false xs cap b (sym e) refl) b′ w))
+
+pub leastReserve-least : (p cap : ℕ) (sizes : List ℕ) → largest sizes ≤ cap → Least (sends p sizes) cap (leastReserve (sends p sizes) cap)
+unfolding leastReserve
+leastReserve-least p cap sizes h =
+    let e : 0 + largest (sends p sizes) ≡ largest sizes = omega (arith, prefetch-largest p sizes) in
+    first-least (sends p sizes) cap 0 (largest (sends p sizes)) (λ b′ w. omega arith) (rw e (largest-serves p cap sizes h))

@@ -13,19 +13,7 @@ ghost use Rattle.retrieval.specs.Stored.{sendsAt, InRange, maxHeld};
 ghost use Rattle.limits.specs.Bounds.{maxSize};
 ghost use Rattle.retrieval.specs.Sheet.{plus, heldIn, Adds};
 ghost use Rattle.retrieval.specs.Round.{roundOf};
-
-fn wide(x: u8) -> u64
-    ensures { λ r. ⌜ (r ≡ x) × (r < 256) ⌝ }
-{
-    x as u64
-}
-
-fn size_at(s: &[u8], at: usize) -> u64
-    requires { ⌜ at + 4 ≤ length (now s) ⌝ }
-    ensures { λ r. ⌜ r ≡ size (now (s .entry)) at ⌝ }
-{
-    wide(s[at]) + 256 * wide(s[at + 1]) + 65536 * wide(s[at + 2]) + 16777216 * wide(s[at + 3])
-}
+use films::words::size_at;
 
 // What one round of a film reads, sends and holds, in bytes.
 pub struct Round {

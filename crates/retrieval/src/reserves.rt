@@ -4,13 +4,24 @@ ghost use Prim.Native.Nat.{_+_, _≤_};
 ghost use lib.ListN.{length};
 ghost use Rattle.limits.specs.Bounds.{maxSize, maxReserve, maxPrefetch};
 ghost use Rattle.films.specs.Sizes.{sizes, Stored};
+ghost use Rattle.laws.specs.Questions.{refusal};
 ghost use Rattle.retrieval.specs.Schedule as schedule;
-ghost use Rattle.retrieval.specs.LeastReserve.{Serves, Least};
-ghost use Rattle.retrieval.specs.ReserveLaws.{servesBy};
+ghost use Rattle.retrieval.specs.Schedule.{sends};
+ghost use Rattle.retrieval.specs.LeastReserve.{Serves, Least, servesBy, leastReserve};
 ghost use Rattle.retrieval.specs.Stored.{sendsAt, InRange};
+ghost use Rattle.retrieval.specs.Answers.{reserveBy, capQuestions};
 use crate::larger;
 use crate::less;
-use crate::size_at;
+use films::words::size_at;
+use limits::bounds::MAX_PREFETCH;
+use limits::refusals::CAP;
+use limits::refusals::PREFETCH;
+
+// The answer of a call for a least reserve: a refusal's number, or the bytes per round.
+pub enum Reserve {
+    Refused(u32),
+    Bytes(u64),
+}
 
 // The largest of the film's n sizes.
 fn largest(file: &[u8], at: usize, n: usize) -> u64
@@ -60,4 +71,19 @@ fn search(file: &[u8], at: usize, n: usize, p: usize, cap: u64, high: u64) -> u6
         }
     }
     lo
+}
+
+// The answer for a film whose n sizes stand at an offset of the file. The largest size serves wherever any reserve does.
+fn least(file: &[u8], at: usize, n: usize, p: u64, cap: u64) -> Reserve
+    requires { ⌜ Stored (now file) at n ⌝ }
+    ensures { λ r. ⌜ r ≡ reserveBy (refusal (capQuestions (sizes (now (file .entry)) at n) p cap)) (leastReserve (sends p (sizes (now (file .entry)) at n)) cap) ⌝ }
+{
+    if MAX_PREFETCH < p {
+        return Reserve::Refused(PREFETCH);
+    }
+    let high = largest(file, at, n);
+    if cap < high {
+        return Reserve::Refused(CAP);
+    }
+    Reserve::Bytes(search(file, at, n, p as usize, cap, high))
 }

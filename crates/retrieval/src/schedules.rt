@@ -9,10 +9,24 @@ ghost use Rattle.retrieval.specs.Schedule.{sum};
 ghost use Rattle.retrieval.specs.JustInTime.{justInTime};
 ghost use Rattle.retrieval.specs.Stored.{sendsAt, InRange, maxHeld};
 ghost use Rattle.retrieval.specs.Written.{Writes};
+ghost use Rattle.retrieval.specs.Answers.{Planned};
+use crate::exists;
 use crate::larger;
 use crate::less;
 use crate::send_at;
-use crate::size_at;
+use films::words::size_at;
+use limits::bounds::MAX_PREFETCH;
+use limits::bounds::MAX_RESERVE;
+use limits::refusals::NO_ROOM;
+use limits::refusals::NO_SCHEDULE;
+use limits::refusals::PREFETCH;
+use limits::refusals::RESERVE;
+
+// The answer of a call for a schedule: a refusal's number, or how many totals are written.
+pub enum Scheduled {
+    Refused(u32),
+    Written(u64),
+}
 
 // The film's total: the sum of its n sizes.
 fn total(file: &[u8], at: usize, n: usize) -> u64
@@ -43,4 +57,26 @@ fn write_totals(out: &mut [u64], file: &[u8], at: usize, n: usize, p: usize, b: 
         out[k] = due;
         sent -= send_at(file, at, n, p, k);
     }
+}
+
+// The answer for a film whose n sizes stand at an offset of the file. Nothing is written before the last question is put.
+fn plan(file: &[u8], at: usize, n: usize, p: u64, b: u64, out: &mut [u64]) -> Scheduled
+    requires { ⌜ Stored (now file) at n ⌝ }
+    ensures { λ r. ⌜ Planned (sizes (now (file .entry)) at n) p b (now (out .entry)) r (now (out .exit)) ⌝ }
+{
+    if MAX_PREFETCH < p {
+        return Scheduled::Refused(PREFETCH);
+    }
+    if MAX_RESERVE < b {
+        return Scheduled::Refused(RESERVE);
+    }
+    let ahead = p as usize;
+    if out.len() < ahead + n {
+        return Scheduled::Refused(NO_ROOM);
+    }
+    if !exists(file, at, n, ahead, b) {
+        return Scheduled::Refused(NO_SCHEDULE);
+    }
+    write_totals(out, file, at, n, ahead, b);
+    Scheduled::Written((ahead + n) as u64)
 }
