@@ -18,3 +18,5 @@ pub mod Theorems
 pub mod Figures
 pub mod Written
 pub mod Answers
+pub mod AnswerLaws
+pub mod FileAnswers

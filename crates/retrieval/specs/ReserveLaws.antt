@@ -162,6 +162,7 @@ first-least xs cap b (suc k) f v = pick (servesBy xs cap b) refl (λ g. first-le
   where
     d : b + suc k ≡ suc b + k
     d = omega arith
+
     pick : (t : Bool) → servesBy xs cap b ≡ t
         → (((b′ : ℕ) → Serves xs cap b′ → suc b ≤ b′) → Least xs cap (firstFrom (servesBy xs cap) (suc b) k))
         → Least xs cap (cond t b (firstFrom (servesBy xs cap) (suc b) k))

@@ -1,20 +1,24 @@
 // The least reserve of a film, by bisection.
 ghost use mathlib.Core.Path.{_≡_};
-ghost use Prim.Native.Nat.{_+_, _≤_};
-ghost use lib.ListN.{length};
-ghost use Rattle.limits.specs.Bounds.{maxSize, maxReserve, maxPrefetch};
+ghost use Prim.Native.Nat.{ℕ};
+ghost use Rattle.films.specs.Layout.{sizesOf};
+ghost use Rattle.films.specs.Decode.{filmsOf};
 ghost use Rattle.films.specs.Sizes.{sizes, Stored};
 ghost use Rattle.laws.specs.Questions.{refusal};
 ghost use Rattle.retrieval.specs.Schedule as schedule;
 ghost use Rattle.retrieval.specs.Schedule.{sends};
 ghost use Rattle.retrieval.specs.LeastReserve.{Serves, Least, servesBy, leastReserve};
 ghost use Rattle.retrieval.specs.Stored.{sendsAt, InRange};
-ghost use Rattle.retrieval.specs.Answers.{reserveBy, capQuestions};
+ghost use Rattle.retrieval.specs.Answers.{reserveBy, capQuestions, reserved};
 use crate::larger;
 use crate::less;
+use films::catalogue::catalogue;
+use films::lookup::lookup;
+use films::types::Lookup;
 use films::words::size_at;
 use limits::bounds::MAX_PREFETCH;
 use limits::refusals::CAP;
+use limits::refusals::NO_FILM;
 use limits::refusals::PREFETCH;
 
 // The answer of a call for a least reserve: a refusal's number, or the bytes per round.
@@ -86,4 +90,21 @@ fn least(file: &[u8], at: usize, n: usize, p: u64, cap: u64) -> Reserve
         return Reserve::Refused(CAP);
     }
     Reserve::Bytes(search(file, at, n, p as usize, cap, high))
+}
+
+// The least reserve of a film of the file, in bytes per round, with p pre-fetch rounds and a memory cap in bytes; or the number
+// of the first question that says no. At most 25 passes over the film.
+pub fn least_reserve(file: &[u8], film: u64, p: u64, cap: u64) -> Reserve
+    ensures answer { λ r. ⌜ r ≡ reserved (now (file .entry)) film p cap ⌝ }
+    ensures least { λ r. ⌜ ((b : ℕ) → r ≡ Reserve.Bytes b → Least (sends p (sizesOf (filmsOf (now (file .entry))) film)) cap b) ⌝ }
+{
+    let films = catalogue(file);
+    if films.verdict != 0 {
+        return Reserve::Refused(films.verdict);
+    }
+    let found = lookup(films, film);
+    match found {
+        Lookup::Found(at, n) => least(file, at, n, p, cap),
+        Lookup::Missing => Reserve::Refused(NO_FILM),
+    }
 }

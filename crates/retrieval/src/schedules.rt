@@ -9,14 +9,18 @@ ghost use Rattle.retrieval.specs.Schedule.{sum};
 ghost use Rattle.retrieval.specs.JustInTime.{justInTime};
 ghost use Rattle.retrieval.specs.Stored.{sendsAt, InRange, maxHeld};
 ghost use Rattle.retrieval.specs.Written.{Writes};
-ghost use Rattle.retrieval.specs.Answers.{Planned};
+ghost use Rattle.retrieval.specs.Answers.{Planned, scheduled, scheduleOut};
 use crate::exists;
 use crate::larger;
 use crate::less;
 use crate::send_at;
+use films::catalogue::catalogue;
+use films::lookup::lookup;
+use films::types::Lookup;
 use films::words::size_at;
 use limits::bounds::MAX_PREFETCH;
 use limits::bounds::MAX_RESERVE;
+use limits::refusals::NO_FILM;
 use limits::refusals::NO_ROOM;
 use limits::refusals::NO_SCHEDULE;
 use limits::refusals::PREFETCH;
@@ -79,4 +83,21 @@ fn plan(file: &[u8], at: usize, n: usize, p: u64, b: u64, out: &mut [u64]) -> Sc
     }
     write_totals(out, file, at, n, ahead, b);
     Scheduled::Written((ahead + n) as u64)
+}
+
+// The just-in-time schedule of a film of the file, with p pre-fetch rounds and a reserve of b bytes per round: its p + n totals
+// in the first places of the lent list, or the number of the first question that says no.
+pub fn schedule(file: &[u8], film: u64, p: u64, b: u64, out: &mut [u64]) -> Scheduled
+    ensures answer { λ r. ⌜ r ≡ scheduled (now (file .entry)) film p b (length (now (out .entry))) ⌝ }
+    ensures places { λ _. ⌜ now (out .exit) ≡ scheduleOut (now (file .entry)) film p b (now (out .entry)) ⌝ }
+{
+    let films = catalogue(file);
+    if films.verdict != 0 {
+        return Scheduled::Refused(films.verdict);
+    }
+    let found = lookup(films, film);
+    match found {
+        Lookup::Found(at, n) => plan(file, at, n, p, b, out),
+        Lookup::Missing => Scheduled::Refused(NO_FILM),
+    }
 }

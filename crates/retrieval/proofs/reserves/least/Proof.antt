@@ -1,30 +1,60 @@
+-- `retrieval::reserves::least` meets its contract: each return is the first "no" of the questions in their order, and there is
+-- one least reserve. Assumes nothing.
+use mathlib.Core.Path.{_≡_}
+use Prim.Native.Nat.{_≤_}
+use native.Mathlib.Omega.{arith}
 use borrow.Author.Needs.{needs}
+use Rattle.limits.specs.Refusals.{prefetchBound, capBound}
+use Rattle.laws.specs.Questions.{refusal}
+use Rattle.films.specs.Sizes.{sizes}
+use Rattle.retrieval.specs.Schedule.{sends, largest}
+use Rattle.retrieval.specs.LeastReserve.{Serves, leastReserve}
+use Rattle.retrieval.specs.ReserveLaws.{largest-serves, least-unique, leastReserve-least}
+use Rattle.retrieval.specs.Stored.{sendsAt, largest-small}
+use Rattle.retrieval.specs.Answers.{capQuestions}
+use Rattle.retrieval.specs.AnswerLaws.{cap-prefetch, cap-small, cap-passes, reserve-refused, reserve-bytes}
 use Rattle.retrieval.proofs.reserves.least.Statement.{statement}
 use Rattle.retrieval.proofs.reserves.least.Tie as tie
-use Rattle.retrieval.proofs.reserves.least.Reads as reads
-use Rattle.retrieval.proofs.reserves.least.Lts as lts
-use Rattle.retrieval.proofs.reserves.largest.Reads as largest-reads
-use Rattle.retrieval.proofs.reserves.search.Reads as search-reads
 
--- src/reserves.rt:82:9
 returns : tie.Need-returns
-returns c = ?
+returns c =
+    let a = c .before .before .args in
+    let xs = sizes (a .file .now) (a .at) (a .n) in
+    reserve-refused (refusal (capQuestions xs (a .p) (a .cap))) prefetchBound (leastReserve (sends (a .p) xs) (a .cap)) (omega arith)
+    (cap-prefetch xs (a .p) (a .cap) (omega arith))
 
--- src/reserves.rt:84:9
 largest-requires : tie.Need-largest-requires
 largest-requires c κs = search needs
 
--- src/reserves.rt:86:9
 returns-2 : tie.Need-returns-2
-returns-2 c = ?
+returns-2 c =
+    let a = c .before .before .before .before .args in
+    let xs = sizes (a .file .now) (a .at) (a .n) in
+    reserve-refused (refusal (capQuestions xs (a .p) (a .cap))) capBound (leastReserve (sends (a .p) xs) (a .cap)) (omega arith)
+    (cap-small xs (a .p) (a .cap) (omega arith) (omega arith))
 
--- src/reserves.rt:88:20
 search-requires : tie.Need-search-requires
-search-requires c κs = ?
+search-requires c κs =
+    let start = c .before .before .before .before in
+    let a = start .args in
+    let s = a .file .now in
+    let xs = sizes s (a .at) (a .n) in
+    let high = c .before .largest .ensures in
+    let small = largest-small s (a .at) (a .n) (start .pre) in
+    let serves : Serves (sends (a .p) xs) (a .cap) (largest xs) = largest-serves (a .p) (a .cap) xs (omega arith) in (
+      record { stored = start .pre; prefetch = omega arith; reserve = omega arith },
+      rw high serves,
+    )
 
--- src/reserves.rt:77:1
 returns-3 : tie.Need-returns-3
-returns-3 c = ?
+returns-3 c =
+    let a = c .before .before .before .before .before .args in
+    let xs = sizes (a .file .now) (a .at) (a .n) in
+    let ys = sends (a .p) xs in
+    let fits : largest xs ≤ a .cap = omega (arith, c .before .before .largest .ensures) in
+    reserve-bytes (refusal (capQuestions xs (a .p) (a .cap))) (c .search .result) (leastReserve ys (a .cap))
+    (cap-passes xs (a .p) (a .cap) (omega arith) fits)
+    (least-unique ys (a .cap) (c .search .result) (leastReserve ys (a .cap)) (c .search .ensures) (leastReserve-least (a .p) (a .cap) xs fits))
 
 pub least-spec : {M : Type 1} → statement M
 least-spec = tie.close (tie.spec returns largest-requires returns-2 search-requires returns-3)

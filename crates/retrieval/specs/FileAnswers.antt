@@ -1,0 +1,115 @@
+-- The answers of a call by what the file's catalogue says of the film. Assumes nothing.
+use mathlib.Core.Path.{_≡_, refl, sym, ap, _∙_}
+use mathlib.Core.Bool.{Bool, true, false, cond, true≢false}
+use mathlib.Core.List.{List, [], _∷_}
+use Prim.Native.Nat.{ℕ, zero, suc}
+use native.Mathlib.Omega.{arith}
+use borrow.Author.Tests.{eq-eqb, ne-eqb, leb-true}
+use lib.ListN.{length}
+use lib.Dec.{eqb, leb}
+use Rattle.laws.specs.Questions.{Question, refusal, refusal-held}
+use Rattle.limits.specs.Bounds.{maxPrefetch}
+use Rattle.limits.specs.Refusals.{noFilm, prefetchBound, capBound}
+use Rattle.films.specs.Layout.{inFile, sizesOf}
+use Rattle.films.specs.Sizes.{sizes}
+use Rattle.films.specs.Decode.{filmsOf}
+use Rattle.films.specs.Questions.{verdict, file}
+use Rattle.films.specs.Catalogue.{catalogueOf}
+use Rattle.films.specs.Lookup.{lookupIn, Says, FoundAt, lookup-says}
+use Rattle.films.specs.declared.types.Catalogue.{Catalogue}
+use Rattle.films.specs.declared.types.Lookup.{Lookup}
+use Rattle.films.specs.declared.types.Lookup.the-variants.{Found, Missing}
+use Rattle.retrieval.specs.declared.schedules.Scheduled.{Scheduled}
+use Rattle.retrieval.specs.declared.schedules.Scheduled.the-variants as scheduled-as
+use Rattle.retrieval.specs.declared.reserves.Reserve.{Reserve}
+use Rattle.retrieval.specs.declared.reserves.Reserve.the-variants as reserve-as
+use Rattle.retrieval.specs.Schedule.{sends, largest}
+use Rattle.retrieval.specs.LeastReserve.{Least, leastReserve}
+use Rattle.retrieval.specs.ReserveLaws.{leastReserve-least}
+use Rattle.retrieval.specs.Answers.{scheduleQuestions, scheduled, scheduleOut, scheduledBy, writtenBy, Planned, capQuestions, reserveQuestions, reserveBy, reserved}
+
+-- ---- a lookup in an accepted file's catalogue
+
+lookup-is : (s : List ℕ) (k : ℕ) (c : Catalogue) (l : Lookup) → verdict s ≡ 0 → c ≡ catalogueOf s → l ≡ lookupIn c k → Says s k l
+lookup-is s k c l v ec el =
+    let e : l ≡ lookupIn (catalogueOf s) k = el ∙ ap (λ d. lookupIn d k) ec in
+    rw e (lookup-says s v k)
+
+pub lookup-found : (s : List ℕ) (k at n : ℕ) (c : Catalogue) (l : Lookup) → verdict s ≡ 0 → c ≡ catalogueOf s → l ≡ lookupIn c k
+    → l ≡ Found at n → FoundAt s k at n
+lookup-found s k at n c l v ec el ef = rw ef at (lookup-is s k c l v ec el)
+
+pub lookup-missing : (s : List ℕ) (k : ℕ) (c : Catalogue) (l : Lookup) → verdict s ≡ 0 → c ≡ catalogueOf s → l ≡ lookupIn c k
+    → l ≡ Missing → inFile (filmsOf s) k ≡ false
+lookup-missing s k c l v ec el em = rw em at (lookup-is s k c l v ec el)
+
+-- ---- a schedule
+
+module _ (s : List ℕ) (film p b : ℕ) (out : List ℕ) where
+  -- the answer r and the list after it are those of the call
+  abbrev pub Answered : Scheduled → List ℕ → Type 0
+  Answered r after = (r ≡ scheduled s film p b (length out)) × (after ≡ scheduleOut s film p b out)
+
+  -- the file is refused
+  pub schedule-file : (v : ℕ) → v ≡ verdict s → (v ≡ 0 → ⊥) → Answered (scheduled-as.Refused v) out
+  unfolding scheduled scheduleOut scheduleQuestions
+  schedule-file zero e h = absurd (h refl)
+  schedule-file (suc v) e h =
+      let n : eqb (verdict s) 0 ≡ false = ne-eqb (verdict s) 0 (λ z. h (e ∙ z)) in
+      (rw (n, ← e), rw (n, ← e))
+
+  -- the film is not in it
+  pub schedule-missing : verdict s ≡ 0 → inFile (filmsOf s) film ≡ false → Answered (scheduled-as.Refused noFilm) out
+  unfolding scheduled scheduleOut scheduleQuestions
+  schedule-missing v e = (rw (eq-eqb (verdict s) 0 v, e), rw (eq-eqb (verdict s) 0 v, e))
+
+  -- its sizes are found
+  pub schedule-found : (at n : ℕ) (r : Scheduled) (after : List ℕ) → verdict s ≡ 0 → FoundAt s film at n → Planned (sizes s at n) p b out r after
+      → Answered r after
+  unfolding scheduled scheduleOut scheduleQuestions
+  schedule-found at n r after v f d =
+      (rw (eq-eqb (verdict s) 0 v, f .inside, f .are) (d .answer), rw (eq-eqb (verdict s) 0 v, f .inside, f .are) (d .places))
+
+-- ---- a least reserve
+
+module _ (s : List ℕ) (film p cap : ℕ) where
+  pub reserve-file : (v : ℕ) → v ≡ verdict s → (v ≡ 0 → ⊥) → reserve-as.Refused v ≡ reserved s film p cap
+  unfolding reserved reserveQuestions
+  reserve-file zero e h = absurd (h refl)
+  reserve-file (suc v) e h =
+      let n : eqb (verdict s) 0 ≡ false = ne-eqb (verdict s) 0 (λ z. h (e ∙ z)) in
+      rw (n, ← e)
+
+  pub reserve-missing : verdict s ≡ 0 → inFile (filmsOf s) film ≡ false → reserve-as.Refused noFilm ≡ reserved s film p cap
+  unfolding reserved reserveQuestions
+  reserve-missing v e = rw (eq-eqb (verdict s) 0 v, e)
+
+  pub reserve-found : (at n : ℕ) (r : Reserve) → verdict s ≡ 0 → FoundAt s film at n
+      → r ≡ reserveBy (refusal (capQuestions (sizes s at n) p cap)) (leastReserve (sends p (sizes s at n)) cap)
+      → r ≡ reserved s film p cap
+  unfolding reserved reserveQuestions
+  reserve-found at n r v f d = rw (eq-eqb (verdict s) 0 v, f .inside, f .are) d
+
+-- where the file's question and those after it all hold, those after it do
+after-file : (s : List ℕ) (qs : List Question) → refusal (file s ∷ qs) ≡ 0 → refusal qs ≡ 0
+after-file s qs e = go (eqb (verdict s) 0) refl e
+  where
+    go : (t : Bool) → eqb (verdict s) 0 ≡ t → cond t (refusal qs) (verdict s) ≡ 0 → refusal qs ≡ 0
+    go true f e = e
+    go false f e = absurd (true≢false (sym (eq-eqb (verdict s) 0 e) ∙ f))
+
+bytes-number : (q m b : ℕ) → reserveBy q m ≡ reserve-as.Bytes b → (q ≡ 0) × (m ≡ b)
+bytes-number zero m b e = (refl, cc)
+bytes-number (suc q) m b e = let z : _≡_ {A = ℕ} 0 1 = cc in absurd (omega arith)
+
+-- whatever number of bytes is answered, it is the least reserve over all schedules
+pub reserved-least : (s : List ℕ) (film p cap b : ℕ) → reserved s film p cap ≡ reserve-as.Bytes b
+    → Least (sends p (sizesOf (filmsOf s) film)) cap b
+unfolding reserved reserveQuestions capQuestions
+reserved-least s film p cap b e =
+    let sizes = sizesOf (filmsOf s) film in
+    let n = bytes-number (refusal (reserveQuestions s film p cap)) (leastReserve (sends p sizes) cap) b e in
+    let found = refusal-held (inFile (filmsOf s) film) noFilm (capQuestions sizes p cap) (omega arith) (after-file s ((inFile (filmsOf s) film, noFilm) ∷ capQuestions sizes p cap) (n .0)) in
+    let ahead = refusal-held (leb p maxPrefetch) prefetchBound ((leb (largest sizes) cap, capBound) ∷ []) (omega arith) (found .1) in
+    let capped = refusal-held (leb (largest sizes) cap) capBound [] (omega arith) (ahead .1) in
+    rw (n .1) at (leastReserve-least p cap sizes (leb-true (largest sizes) cap (capped .0)))
