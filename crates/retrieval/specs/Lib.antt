@@ -16,7 +16,3 @@ pub mod Sheet
 pub mod SheetLaws
 pub mod Theorems
 pub mod Figures
-pub mod Written
-pub mod Answers
-pub mod AnswerLaws
-pub mod FileAnswers

@@ -14,7 +14,6 @@ use Rattle.retrieval.specs.JustInTime.{justInTime, existsBy}
 use Rattle.retrieval.specs.Carry.{carry, profile}
 use Rattle.retrieval.specs.CarryLaws.{justInTime-at, profile-at, carry-drop}
 use Rattle.retrieval.specs.Minimality.{existsBy-carry}
-use Rattle.retrieval.specs.Written.{totals-at}
 
 -- by the paper
 abbrev pub ruleRound : ℕ → List ℕ → ℕ → Round
@@ -38,6 +37,12 @@ round-carry b xs t read send later h es el er =
     let k : send + later ≡ getD (profile b xs) t 0 = omega (arith, profile-at b xs t h) in
     let r : read ≡ min b (getD (profile b xs) t 0) = rw k at er in
     cc
+
+-- C(t) is C(t-1) and what the round sends
+pub totals-at : (c : ℕ) (xs : List ℕ) (t : ℕ) → t < length xs → getD (totals c xs) t 0 ≡ getD (c ∷ totals c xs) t 0 + getD xs t 0
+totals-at c [] t h = absurd (not-suc-le-zero h)
+totals-at c (x ∷ xs) zero h = refl
+totals-at c (x ∷ xs) (suc t) h = totals-at (c + x) xs t (le-of-suc-le-suc h)
 
 -- A(t-1) is C(t-1) and the carry of the rounds from t on
 justInTime-prior : (b : ℕ) (xs : List ℕ) (t : ℕ) → carry b xs ≡ 0 → t < length xs

@@ -1,7 +1,4 @@
 // Read schedules of films: existence, peak, what is held, one round.
-pub mod reserves;
-pub mod schedules;
-
 ghost use mathlib.Core.Path.{_≡_};
 ghost use Prim.Native.Nat.{_+_, _-_, _*_, _≤_, _<_, min, max};
 ghost use lib.ListN.{length, getD, drop};
@@ -23,14 +20,14 @@ pub struct Round {
 }
 
 // a less b, and 0 where b is more.
-fn less(a: u64, b: u64) -> u64
+pub fn less(a: u64, b: u64) -> u64
     ensures { λ r. ⌜ r ≡ a - b ⌝ }
 {
     if b < a { a - b } else { 0 }
 }
 
 // What the film sends in round t, counted from its start.
-fn send_at(file: &[u8], at: usize, n: usize, p: usize, t: usize) -> u64
+pub fn send_at(file: &[u8], at: usize, n: usize, p: usize, t: usize) -> u64
     requires { ⌜ (Stored (now file) at n) × (t < p + n) ⌝ }
     ensures { λ r. ⌜ (r ≡ getD (sendsAt (now (file .entry)) at n p) t 0) × (r ≤ maxSize) ⌝ }
 {
@@ -63,7 +60,7 @@ pub fn exists(file: &[u8], at: usize, n: usize, p: usize, b: u64) -> bool
 }
 
 // The larger of two.
-fn larger(a: u64, b: u64) -> u64
+pub fn larger(a: u64, b: u64) -> u64
     ensures { λ r. ⌜ r ≡ max a b ⌝ }
 {
     if a < b { b } else { a }

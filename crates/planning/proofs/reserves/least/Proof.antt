@@ -1,4 +1,4 @@
--- `retrieval::reserves::least` meets its contract: each return is the first "no" of the questions in their order, and there is
+-- `planning::reserves::least` meets its contract: each return is the first "no" of the questions in their order, and there is
 -- one least reserve. Assumes nothing.
 use mathlib.Core.Path.{_≡_}
 use Prim.Native.Nat.{_≤_}
@@ -7,14 +7,14 @@ use borrow.Author.Needs.{needs}
 use Rattle.limits.specs.Refusals.{prefetchBound, capBound}
 use Rattle.laws.specs.Questions.{refusal}
 use Rattle.films.specs.Sizes.{sizes}
 use Rattle.retrieval.specs.Schedule.{sends, largest}
 use Rattle.retrieval.specs.LeastReserve.{Serves, leastReserve}
 use Rattle.retrieval.specs.ReserveLaws.{largest-serves, least-unique, leastReserve-least}
 use Rattle.retrieval.specs.Stored.{sendsAt, largest-small}
-use Rattle.retrieval.specs.Answers.{capQuestions}
-use Rattle.retrieval.specs.AnswerLaws.{cap-prefetch, cap-small, cap-passes, reserve-refused, reserve-bytes}
-use Rattle.retrieval.proofs.reserves.least.Statement.{statement}
-use Rattle.retrieval.proofs.reserves.least.Tie as tie
+use Rattle.planning.specs.Answers.{capQuestions}
+use Rattle.planning.specs.AnswerLaws.{cap-prefetch, cap-small, cap-passes, reserve-refused, reserve-bytes}
+use Rattle.planning.proofs.reserves.least.Statement.{statement}
+use Rattle.planning.proofs.reserves.least.Tie as tie
 
 returns : tie.Need-returns
 returns c =

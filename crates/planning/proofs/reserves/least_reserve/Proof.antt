@@ -1,11 +1,11 @@
--- `retrieval::reserves::least_reserve` meets its contract: the file's questions, the film's, and the rest by `least`.
+-- `planning::reserves::least_reserve` meets its contract: the file's questions, the film's, and the rest by `least`.
 -- Assumes nothing.
 use mathlib.Core.Path.{sym, _∙_}
 use borrow.Author.Needs.{needs}
-use Rattle.retrieval.specs.FileAnswers.{lookup-found, lookup-missing, reserve-file, reserve-missing, reserve-found, reserved-least}
-use Rattle.retrieval.proofs.Catalogue.{holds, accepted}
-use Rattle.retrieval.proofs.reserves.least_reserve.Statement.{statement}
-use Rattle.retrieval.proofs.reserves.least_reserve.Tie as tie
+use Rattle.planning.specs.FileAnswers.{lookup-found, lookup-missing, reserve-file, reserve-missing, reserve-found, reserved-least}
+use Rattle.planning.proofs.Catalogue.{holds, accepted}
+use Rattle.planning.proofs.reserves.least_reserve.Statement.{statement}
+use Rattle.planning.proofs.reserves.least_reserve.Tie as tie
 
 catalogue-requires : tie.Need-catalogue-requires
 catalogue-requires c κs = search needs

@@ -1,4 +1,4 @@
--- `retrieval::reserves::largest` meets its contract. The invariant: most is the largest size from i on. The measure is i.
+-- `planning::reserves::largest` meets its contract. The invariant: most is the largest size from i on. The measure is i.
 -- Assumes nothing.
 use mathlib.Core.Path.{_≡_, sym, _∙_}
 use Prim.Native.Nat.{_≤_, _-_}
@@ -6,10 +6,10 @@ use native.Mathlib.Omega.{arith}
 use borrow.Author.Needs.{needs}
 use lib.ListN.{length, drop}
 use Rattle.films.specs.Sizes.{sizes}
 use Rattle.retrieval.specs.Schedule.{largest}
 use Rattle.retrieval.specs.Stored.{length-sizes, sizes-at, drop-sizes, turn-largest}
-use Rattle.retrieval.proofs.reserves.largest.Statement.{statement}
-use Rattle.retrieval.proofs.reserves.largest.Tie as tie
+use Rattle.planning.proofs.reserves.largest.Statement.{statement}
+use Rattle.planning.proofs.reserves.largest.Tie as tie
 
 abbrev Inv-loop : tie.InvT-loop
 Inv-loop file at n most₀ i₀ most i = (i ≤ n) × (most ≡ largest (drop i (sizes file at n)))

@@ -10,13 +10,13 @@ use Rattle.limits.specs.Refusals.{noFilm, prefetchBound, reserveBound, noRoom, 
 use Rattle.films.specs.Layout.{inFile, sizesOf}
 use Rattle.films.specs.Decode.{filmsOf}
 use Rattle.films.specs.Questions.{file}
-use Rattle.retrieval.specs.declared.schedules.Scheduled.{Scheduled}
-use Rattle.retrieval.specs.declared.schedules.Scheduled.the-variants as scheduled-as
-use Rattle.retrieval.specs.declared.reserves.Reserve.{Reserve}
-use Rattle.retrieval.specs.declared.reserves.Reserve.the-variants as reserve-as
+use Rattle.planning.specs.declared.schedules.Scheduled.{Scheduled}
+use Rattle.planning.specs.declared.schedules.Scheduled.the-variants as scheduled-as
+use Rattle.planning.specs.declared.reserves.Reserve.{Reserve}
+use Rattle.planning.specs.declared.reserves.Reserve.the-variants as reserve-as
 use Rattle.retrieval.specs.Schedule.{sends, largest}
 use Rattle.retrieval.specs.JustInTime.{justInTime, existsBy}
 use Rattle.retrieval.specs.LeastReserve.{leastReserve}
 
 -- ---- Schedule
 

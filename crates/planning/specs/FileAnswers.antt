@@ -19,14 +19,14 @@ use Rattle.films.specs.Lookup.{lookupIn, Says, FoundAt, lookup-says}
 use Rattle.films.specs.declared.types.Catalogue.{Catalogue}
 use Rattle.films.specs.declared.types.Lookup.{Lookup}
 use Rattle.films.specs.declared.types.Lookup.the-variants.{Found, Missing}
-use Rattle.retrieval.specs.declared.schedules.Scheduled.{Scheduled}
-use Rattle.retrieval.specs.declared.schedules.Scheduled.the-variants as scheduled-as
-use Rattle.retrieval.specs.declared.reserves.Reserve.{Reserve}
-use Rattle.retrieval.specs.declared.reserves.Reserve.the-variants as reserve-as
+use Rattle.planning.specs.declared.schedules.Scheduled.{Scheduled}
+use Rattle.planning.specs.declared.schedules.Scheduled.the-variants as scheduled-as
+use Rattle.planning.specs.declared.reserves.Reserve.{Reserve}
+use Rattle.planning.specs.declared.reserves.Reserve.the-variants as reserve-as
 use Rattle.retrieval.specs.Schedule.{sends, largest}
 use Rattle.retrieval.specs.LeastReserve.{Least, leastReserve}
 use Rattle.retrieval.specs.ReserveLaws.{leastReserve-least}
-use Rattle.retrieval.specs.Answers.{scheduleQuestions, scheduled, scheduleOut, scheduledBy, writtenBy, Planned, capQuestions, reserveQuestions, reserveBy, reserved}
+use Rattle.planning.specs.Answers.{scheduleQuestions, scheduled, scheduleOut, scheduledBy, writtenBy, Planned, capQuestions, reserveQuestions, reserveBy, reserved}
 
 -- ---- a lookup in an accepted file's catalogue
 

@@ -9,12 +9,12 @@ use lib.ListN.{length, drop}
 use Rattle.laws.specs.Questions.{refusal}
 use Rattle.limits.specs.Bounds.{maxPrefetch, maxReserve}
 use Rattle.limits.specs.Refusals.{prefetchBound, reserveBound, noRoom, noSchedule, capBound}
-use Rattle.retrieval.specs.declared.schedules.Scheduled.{Scheduled}
-use Rattle.retrieval.specs.declared.schedules.Scheduled.the-variants.{Refused, Written}
-use Rattle.retrieval.specs.declared.reserves.Reserve.the-variants as reserve-as
+use Rattle.planning.specs.declared.schedules.Scheduled.{Scheduled}
+use Rattle.planning.specs.declared.schedules.Scheduled.the-variants.{Refused, Written}
+use Rattle.planning.specs.declared.reserves.Reserve.the-variants as reserve-as
 use Rattle.retrieval.specs.Schedule.{sends, largest}
 use Rattle.retrieval.specs.JustInTime.{existsBy}
-use Rattle.retrieval.specs.Answers.{planQuestions, planTotals, scheduledBy, writtenBy, Planned, reserveBy, capQuestions}
+use Rattle.planning.specs.Answers.{planQuestions, planTotals, scheduledBy, writtenBy, Planned, reserveBy, capQuestions}
 
 -- ---- a schedule's questions
 

@@ -1,10 +1,10 @@
--- `retrieval::schedules::schedule` meets its contract: the file's questions, the film's, and the rest by `plan`.
+-- `planning::schedules::schedule` meets its contract: the file's questions, the film's, and the rest by `plan`.
 -- Assumes nothing.
 use borrow.Author.Needs.{needs}
-use Rattle.retrieval.specs.FileAnswers.{lookup-found, lookup-missing, schedule-file, schedule-missing, schedule-found}
-use Rattle.retrieval.proofs.Catalogue.{holds, accepted}
-use Rattle.retrieval.proofs.schedules.schedule.Statement.{statement}
-use Rattle.retrieval.proofs.schedules.schedule.Tie as tie
+use Rattle.planning.specs.FileAnswers.{lookup-found, lookup-missing, schedule-file, schedule-missing, schedule-found}
+use Rattle.planning.proofs.Catalogue.{holds, accepted}
+use Rattle.planning.proofs.schedules.schedule.Statement.{statement}
+use Rattle.planning.proofs.schedules.schedule.Tie as tie
 
 catalogue-requires : tie.Need-catalogue-requires
 catalogue-requires c κs = search needs

@@ -1,4 +1,4 @@
--- `retrieval::schedules::total` meets its contract. The invariant: bytes is the sum of the sizes from i on. The measure is i.
+-- `planning::schedules::total` meets its contract. The invariant: bytes is the sum of the sizes from i on. The measure is i.
 -- Assumes nothing.
 use mathlib.Core.Path.{_≡_, sym, _∙_}
 use Prim.Native.Nat.{_≤_, _*_, _-_}
@@ -7,11 +7,11 @@ use borrow.Author.Needs.{needs}
 use lib.ListN.{length, drop}
 use Rattle.limits.specs.Bounds.{maxSize}
 use Rattle.films.specs.Sizes.{sizes}
 use Rattle.retrieval.specs.Schedule.{sum}
 use Rattle.retrieval.specs.Stored.{length-sizes, sizes-at, size-small, drop-sizes}
-use Rattle.retrieval.specs.Written.{turn-sum}
-use Rattle.retrieval.proofs.schedules.total.Statement.{statement}
-use Rattle.retrieval.proofs.schedules.total.Tie as tie
+use Rattle.planning.specs.Written.{turn-sum}
+use Rattle.planning.proofs.schedules.total.Statement.{statement}
+use Rattle.planning.proofs.schedules.total.Tie as tie
 
 abbrev Inv-loop : tie.InvT-loop
 Inv-loop file at n bytes₀ i₀ bytes i =

@@ -1,4 +1,4 @@
--- `retrieval::reserves::serves` meets its contract. The invariant: c is the carry of the sizes from i on, and their peak is at
+-- `planning::reserves::serves` meets its contract. The invariant: c is the carry of the sizes from i on, and their peak is at
 -- most cap. The measure is i. Assumes nothing.
 use mathlib.Core.Path.{_≡_, sym, _∙_}
 use mathlib.Core.Bool.{false}
@@ -8,12 +8,12 @@ use native.Mathlib.Omega.{arith}
 use borrow.Author.Needs.{needs}
 use lib.ListN.{length, drop, getD}
 use Rattle.films.specs.Sizes.{sizes}
 use Rattle.retrieval.specs.Schedule.{largest}
 use Rattle.retrieval.specs.Carry.{carry, profile}
 use Rattle.retrieval.specs.ReserveLaws.{servesBy-over, servesBy-test}
 use Rattle.retrieval.specs.Stored.{maxHeld, length-sizes, sizes-at, size-small, drop-sizes, turn-held, turn-carry, turn-peak, held-bound}
-use Rattle.retrieval.proofs.reserves.serves.Statement.{statement}
-use Rattle.retrieval.proofs.reserves.serves.Tie as tie
+use Rattle.planning.proofs.reserves.serves.Statement.{statement}
+use Rattle.planning.proofs.reserves.serves.Tie as tie
 
 abbrev Inv-loop : tie.InvT-loop
 Inv-loop file at n p cap b c₀ i₀ c i =

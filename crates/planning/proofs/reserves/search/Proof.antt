@@ -1,14 +1,14 @@
--- `retrieval::reserves::search` meets its contract. The invariant: hi serves, and whatever serves is at least lo. The measure
+-- `planning::reserves::search` meets its contract. The invariant: hi serves, and whatever serves is at least lo. The measure
 -- is hi - lo. Assumes nothing.
 use mathlib.Core.Path.{_≡_}
 use Prim.Native.Nat.{ℕ, _≤_, _<_, _+_, _-_, _/_}
 use native.Mathlib.Omega.{arith}
 use borrow.Author.Needs.{needs}
 use Rattle.retrieval.specs.LeastReserve.{Serves}
 use Rattle.retrieval.specs.ReserveLaws.{servesBy-yes, servesBy-no, serves-above}
 use Rattle.retrieval.specs.Stored.{sendsAt}
-use Rattle.retrieval.proofs.reserves.search.Statement.{statement}
-use Rattle.retrieval.proofs.reserves.search.Tie as tie
+use Rattle.planning.proofs.reserves.search.Statement.{statement}
+use Rattle.planning.proofs.reserves.search.Tie as tie
 
 abbrev Inv-loop : tie.InvT-loop
 Inv-loop file at n p cap high lo₀ hi₀ lo hi =

@@ -5,10 +5,11 @@ use Prim.Native.Nat.{ℕ, zero, suc, _+_, _-_, _*_, _≤_, _<_, max}
 use native.Mathlib.Nat.{not-suc-le-zero, le-of-suc-le-suc}
 use native.Mathlib.Omega.{arith}
 use lib.ListN.{length, getD, drop}
 use Rattle.retrieval.specs.Schedule.{sends, sum, totals}
 use Rattle.retrieval.specs.JustInTime.{justInTime}
 use Rattle.retrieval.specs.Minimality.{justInTime-last, justInTime-before}
+use Rattle.retrieval.specs.Round.{totals-at}
 use Rattle.retrieval.specs.Stored.{InRange}
 
 -- a list takes the p + n totals of a film
 pub record Writes (out s : List ℕ) (at n p b : ℕ) : Type 0 where
@@ -40,11 +41,6 @@ turn-sum (suc k) x a xs h l ea ex =
 pub totals-sum : (c : ℕ) (xs : List ℕ) → getD (c ∷ totals c xs) (length xs) 0 ≡ c + sum xs
 totals-sum c [] = omega arith
 totals-sum c (x ∷ xs) = omega (arith, totals-sum (c + x) xs)
-
-pub totals-at : (c : ℕ) (xs : List ℕ) (t : ℕ) → t < length xs → getD (totals c xs) t 0 ≡ getD (c ∷ totals c xs) t 0 + getD xs t 0
-totals-at c [] t h = absurd (not-suc-le-zero h)
-totals-at c (x ∷ xs) zero h = refl
-totals-at c (x ∷ xs) (suc t) h = totals-at (c + x) xs t (le-of-suc-le-suc h)
 
 -- ---- a turn of a loop from k to k - 1, where C(k-1) is sent and x is what the round sends
 

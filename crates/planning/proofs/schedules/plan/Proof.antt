@@ -1,4 +1,4 @@
--- `retrieval::schedules::plan` meets its contract: each return is the first "no" of the questions in their order.
+-- `planning::schedules::plan` meets its contract: each return is the first "no" of the questions in their order.
 -- Assumes nothing.
 use mathlib.Core.Path.{_≡_}
 use Prim.Native.Nat.{_+_, _≤_}
@@ -7,11 +7,11 @@ use borrow.Author.Needs.{needs}
 use lib.ListN.{length}
 use Rattle.limits.specs.Refusals.{prefetchBound, reserveBound, noRoom, noSchedule}
 use Rattle.films.specs.Sizes.{sizes}
 use Rattle.retrieval.specs.CarryLaws.{length-justInTime}
 use Rattle.retrieval.specs.Stored.{sendsAt, length-sizes, length-sendsAt}
-use Rattle.retrieval.specs.AnswerLaws.{plan-prefetch, plan-reserve, plan-room, plan-none, plan-passes, planned-refused, planned-written}
-use Rattle.retrieval.proofs.schedules.plan.Statement.{statement}
-use Rattle.retrieval.proofs.schedules.plan.Tie as tie
+use Rattle.planning.specs.AnswerLaws.{plan-prefetch, plan-reserve, plan-room, plan-none, plan-passes, planned-refused, planned-written}
+use Rattle.planning.proofs.schedules.plan.Statement.{statement}
+use Rattle.planning.proofs.schedules.plan.Tie as tie
 
 returns : tie.Need-returns
 returns c =

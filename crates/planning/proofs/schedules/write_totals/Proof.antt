@@ -1,4 +1,4 @@
--- `retrieval::schedules::write_totals` meets its contract. The invariant: the totals are written from place k on, sent is C(k-1),
+-- `planning::schedules::write_totals` meets its contract. The invariant: the totals are written from place k on, sent is C(k-1),
 -- and the larger of it and due - b is A(k-1). The measure is k. Assumes nothing.
 use mathlib.Core.Path.{_≡_, sym, ap, _∙_}
 use mathlib.Core.List.{List, _∷_}
@@ -7,14 +7,14 @@ use native.Mathlib.Omega.{arith}
 use borrow.Author.Needs.{needs}
 use lib.ListN.{length, drop, getD, length-set}
 use Rattle.films.specs.Sizes.{sizes}
 use Rattle.retrieval.specs.Schedule.{sum, totals}
 use Rattle.retrieval.specs.JustInTime.{justInTime}
 use Rattle.retrieval.specs.CarryLaws.{length-justInTime}
 use Rattle.retrieval.specs.Stored.{sendsAt, length-sendsAt}
 use Rattle.retrieval.specs.SheetLaws.{ontoFrom, ontoFrom-none, turn-write, written}
-use Rattle.retrieval.specs.Written.{sum-sends, totals-sum, turn-sent, start-rule, turn-rule}
-use Rattle.retrieval.proofs.schedules.write_totals.Statement.{statement}
-use Rattle.retrieval.proofs.schedules.write_totals.Tie as tie
+use Rattle.planning.specs.Written.{sum-sends, totals-sum, turn-sent, start-rule, turn-rule}
+use Rattle.planning.proofs.schedules.write_totals.Statement.{statement}
+use Rattle.planning.proofs.schedules.write_totals.Tie as tie
 
 record Going (out₀ file : List ℕ) (at n p b : ℕ) (out : List ℕ) (sent due k : ℕ) : Type 0 where
   within : k ≤ p + n
