@@ -10,8 +10,6 @@ ghost use Rattle.retrieval.specs.Schedule.{sends};
 ghost use Rattle.retrieval.specs.LeastReserve.{Serves, Least, servesBy, leastReserve};
 ghost use Rattle.retrieval.specs.Stored.{sendsAt, InRange};
 ghost use Rattle.planning.specs.Answers.{reserveBy, capQuestions, reserved};
-use retrieval::larger;
-use retrieval::less;
 use films::catalogue::catalogue;
 use films::lookup::lookup;
 use films::types::Lookup;
@@ -20,6 +18,8 @@ use limits::bounds::MAX_PREFETCH;
 use limits::refusals::CAP;
 use limits::refusals::NO_FILM;
 use limits::refusals::PREFETCH;
+use retrieval::larger;
+use retrieval::less;
 
 // The answer of a call for a least reserve: a refusal's number, or the bytes per round.
 pub enum Reserve {
@@ -41,7 +41,7 @@ fn largest(file: &[u8], at: usize, n: usize) -> u64
     most
 }
 
-// Whether a reserve of b bytes per round has a schedule that never holds more than cap bytes.
+// Does a reserve of b bytes per round have a schedule with peak at most the cap?
 fn serves(file: &[u8], at: usize, n: usize, p: usize, cap: u64, b: u64) -> bool
     requires { ⌜ InRange (now file) at n p b ⌝ }
     ensures { λ r. ⌜ r ≡ servesBy (sendsAt (now (file .entry)) at n p) cap b ⌝ }
@@ -59,7 +59,7 @@ fn serves(file: &[u8], at: usize, n: usize, p: usize, cap: u64, b: u64) -> bool
     c <= (p as u64) * b
 }
 
-// The least reserve, of which it is known that `high` serves.
+// The least reserve, where `high` has such a schedule.
 fn search(file: &[u8], at: usize, n: usize, p: usize, cap: u64, high: u64) -> u64
     requires { ⌜ (InRange (now file) at n p high) × (Serves (sendsAt (now file) at n p) cap high) ⌝ }
     ensures { λ r. ⌜ Least (sendsAt (now (file .entry)) at n p) cap r ⌝ }
@@ -77,7 +77,8 @@ fn search(file: &[u8], at: usize, n: usize, p: usize, cap: u64, high: u64) -> u6
     lo
 }
 
-// The answer for a film whose n sizes stand at an offset of the file. The largest size serves wherever any reserve does.
+// The answer for a film whose n sizes stand at an offset of the file. A reserve of the largest size
+// serves wherever the cap is as much.
 fn least(file: &[u8], at: usize, n: usize, p: u64, cap: u64) -> Reserve
     requires { ⌜ Stored (now file) at n ⌝ }
     ensures { λ r. ⌜ r ≡ reserveBy (refusal (capQuestions (sizes (now (file .entry)) at n) p cap)) (leastReserve (sends p (sizes (now (file .entry)) at n)) cap) ⌝ }

@@ -3,17 +3,12 @@ ghost use mathlib.Core.Path.{_≡_};
 ghost use mathlib.Core.List.{_++_};
 ghost use Prim.Native.Nat.{_+_, _≤_};
 ghost use lib.ListN.{length, drop};
-ghost use Rattle.limits.specs.Bounds.{maxSize};
 ghost use Rattle.films.specs.Sizes.{sizes, Stored};
 ghost use Rattle.retrieval.specs.Schedule.{sum};
 ghost use Rattle.retrieval.specs.JustInTime.{justInTime};
-ghost use Rattle.retrieval.specs.Stored.{sendsAt, InRange, maxHeld};
+ghost use Rattle.retrieval.specs.Stored.{sendsAt, maxHeld};
 ghost use Rattle.planning.specs.Written.{Writes};
 ghost use Rattle.planning.specs.Answers.{Planned, scheduled, scheduleOut};
-use retrieval::exists;
-use retrieval::larger;
-use retrieval::less;
-use retrieval::send_at;
 use films::catalogue::catalogue;
 use films::lookup::lookup;
 use films::types::Lookup;
@@ -25,6 +20,10 @@ use limits::refusals::NO_ROOM;
 use limits::refusals::NO_SCHEDULE;
 use limits::refusals::PREFETCH;
 use limits::refusals::RESERVE;
+use retrieval::exists;
+use retrieval::larger;
+use retrieval::less;
+use retrieval::send_at;
 
 // The answer of a call for a schedule: a refusal's number, or how many totals are written.
 pub enum Scheduled {

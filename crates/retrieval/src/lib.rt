@@ -1,13 +1,15 @@
-// Read schedules of films: existence, peak, what is held, one round.
+// A film's just-in-time schedule, where its sizes stand in the file: whether there is one, its peak, what it holds, one round.
+// Each is one pass backward over the sizes, with no buffer. The film's n sizes stand at offset `at`, p is its pre-fetch rounds
+// and b its reserve in bytes per round; rounds are counted from its start.
 ghost use mathlib.Core.Path.{_≡_};
-ghost use Prim.Native.Nat.{_+_, _-_, _*_, _≤_, _<_, min, max};
-ghost use lib.ListN.{length, getD, drop};
-ghost use Rattle.films.specs.Sizes.{size, sizes, Stored};
-ghost use Rattle.retrieval.specs.Schedule.{peak, largest};
-ghost use Rattle.retrieval.specs.JustInTime.{justInTime, existsBy};
-ghost use Rattle.retrieval.specs.Carry.{carry, profile};
-ghost use Rattle.retrieval.specs.Stored.{sendsAt, InRange, maxHeld};
+ghost use Prim.Native.Nat.{_+_, _-_, _≤_, _<_, min, max};
+ghost use lib.ListN.{getD, drop};
 ghost use Rattle.limits.specs.Bounds.{maxSize};
+ghost use Rattle.films.specs.Sizes.{Stored};
+ghost use Rattle.retrieval.specs.Schedule.{peak};
+ghost use Rattle.retrieval.specs.JustInTime.{justInTime, existsBy};
+ghost use Rattle.retrieval.specs.Carry.{carry};
+ghost use Rattle.retrieval.specs.Stored.{sendsAt, InRange, maxHeld};
 ghost use Rattle.retrieval.specs.Sheet.{plus, heldIn, Adds};
 ghost use Rattle.retrieval.specs.Round.{roundOf};
 use films::words::size_at;
@@ -26,39 +28,6 @@ pub fn less(a: u64, b: u64) -> u64
     if b < a { a - b } else { 0 }
 }
 
-// What the film sends in round t, counted from its start.
-pub fn send_at(file: &[u8], at: usize, n: usize, p: usize, t: usize) -> u64
-    requires { ⌜ (Stored (now file) at n) × (t < p + n) ⌝ }
-    ensures { λ r. ⌜ (r ≡ getD (sendsAt (now (file .entry)) at n p) t 0) × (r ≤ maxSize) ⌝ }
-{
-    if t < p {
-        return 0;
-    }
-    size_at(file, at + 4 * (t - p))
-}
-
-// The carry of the film's rounds from t on.
-fn carry_from(file: &[u8], at: usize, n: usize, p: usize, b: u64, t: usize) -> u64
-    requires { ⌜ (InRange (now file) at n p b) × (t ≤ p + n) ⌝ }
-    ensures { λ r. ⌜ (r ≡ carry b (drop t (sendsAt (now (file .entry)) at n p))) × (r ≤ maxHeld) ⌝ }
-{
-    let mut c: u64 = 0;
-    let mut k = p + n;
-    while t < k {
-        k -= 1;
-        c = less(send_at(file, at, n, p, k) + c, b);
-    }
-    c
-}
-
-// Whether a schedule exists for a film with p pre-fetch rounds at a reserve of b bytes per round.
-pub fn exists(file: &[u8], at: usize, n: usize, p: usize, b: u64) -> bool
-    requires { ⌜ InRange (now file) at n p b ⌝ }
-    ensures { λ r. ⌜ r ≡ existsBy b (sendsAt (now (file .entry)) at n p) ⌝ }
-{
-    carry_from(file, at, n, p, b, 0) == 0
-}
-
 // The larger of two.
 pub fn larger(a: u64, b: u64) -> u64
     ensures { λ r. ⌜ r ≡ max a b ⌝ }
@@ -73,7 +42,40 @@ fn smaller(a: u64, b: u64) -> u64
     if a < b { a } else { b }
 }
 
-// The peak of the just-in-time schedule: the most that the film holds in a round, in bytes.
+// What the film sends in round t.
+pub fn send_at(file: &[u8], at: usize, n: usize, p: usize, t: usize) -> u64
+    requires { ⌜ (Stored (now file) at n) × (t < p + n) ⌝ }
+    ensures { λ r. ⌜ (r ≡ getD (sendsAt (now (file .entry)) at n p) t 0) × (r ≤ maxSize) ⌝ }
+{
+    if t < p {
+        return 0;
+    }
+    size_at(file, at + 4 * (t - p))
+}
+
+// The carry of the film's rounds from t on: what they leave to be read before round t.
+fn carry_from(file: &[u8], at: usize, n: usize, p: usize, b: u64, t: usize) -> u64
+    requires { ⌜ (InRange (now file) at n p b) × (t ≤ p + n) ⌝ }
+    ensures { λ r. ⌜ (r ≡ carry b (drop t (sendsAt (now (file .entry)) at n p))) × (r ≤ maxHeld) ⌝ }
+{
+    let mut c: u64 = 0;
+    let mut k = p + n;
+    while t < k {
+        k -= 1;
+        c = less(send_at(file, at, n, p, k) + c, b);
+    }
+    c
+}
+
+// Does a schedule exist? It does exactly if nothing is left to be read before round 0.
+pub fn exists(file: &[u8], at: usize, n: usize, p: usize, b: u64) -> bool
+    requires { ⌜ InRange (now file) at n p b ⌝ }
+    ensures { λ r. ⌜ r ≡ existsBy b (sendsAt (now (file .entry)) at n p) ⌝ }
+{
+    carry_from(file, at, n, p, b, 0) == 0
+}
+
+// The peak: the most that the film holds in a round, in bytes. The pre-fetch rounds hold no more than the round after them.
 pub fn peak(file: &[u8], at: usize, n: usize, p: usize, b: u64) -> u64
     requires { ⌜ InRange (now file) at n p b ⌝ }
     ensures { λ r. ⌜ r ≡ peak (sendsAt (now (file .entry)) at n p) (justInTime b 0 (sendsAt (now (file .entry)) at n p)) ⌝ }
@@ -90,8 +92,9 @@ pub fn peak(file: &[u8], at: usize, n: usize, p: usize, b: u64) -> u64
     most
 }
 
-// Adds what the film holds in its rounds from a to e - 1, counted from its start, to the first places of a list, where c is
-// the carry of its rounds from e on. Gives the carry of its rounds from a on.
+// Adds what the film holds in its rounds a to e - 1 to the first places of a lent list, where c is the carry of its rounds from
+// e on. Gives the carry of its rounds from a on, so that a film can be added window by window, the latest first; with a 0,
+// e p + n and c 0 it is added whole.
 pub fn add_held(
     part: &mut [u64],
     file: &[u8],
@@ -117,7 +120,7 @@ pub fn add_held(
     left
 }
 
-// What the film reads, sends and holds in round t, counted from its start.
+// What the film reads, sends and holds in round t.
 pub fn round_at(file: &[u8], at: usize, n: usize, p: usize, b: u64, t: usize) -> Round
     requires { ⌜ (InRange (now file) at n p b) × (t < p + n) ⌝ }
     ensures { λ r. ⌜ r ≡ roundOf b (sendsAt (now (file .entry)) at n p) t ⌝ }
