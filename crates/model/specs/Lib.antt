@@ -27,3 +27,4 @@ pub mod Safety
 pub mod Figures
 pub mod Order
 pub mod Unchanged
+pub mod Examples
