@@ -28,3 +28,4 @@ pub mod Figures
 pub mod Order
 pub mod Unchanged
 pub mod Examples
+pub mod FitBeside
