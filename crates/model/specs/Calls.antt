@@ -1,6 +1,6 @@
 -- The calls of a day, each as a function from everything lent and given to the answer and every lent place afterwards.
--- Document 01, 'A day at the desk' and 'Questions at the counter'. "A refusal returns its number only and changes nothing lent,
--- except that 22 leaves the sheet of the bookings as they stand."
+-- Document 01, 'A day at the desk' and 'Questions at the counter'. "A refusal returns its number only and changes nothing
+-- lent, except that 22 leaves the sheet of the bookings as they stand."
 use mathlib.Core.Bool.{Bool, cond, _&&_}
 use mathlib.Core.List.{List, [], _∷_, _++_}
 use Prim.Native.Nat.{ℕ, zero, suc, _-_}
@@ -31,6 +31,19 @@ pub record Outcome : Type 0 where
 -- the bookings that stand
 abbrev pub standing : State → List Booking
 standing d = take (d .count) (d .records)
+
+-- the state in another round
+abbrev pub atRound : ℕ → State → State
+atRound now d =
+    record {
+      now = now;
+      count = d .count;
+      places = d .places;
+      records = d .records;
+      opens = d .opens;
+      reserves = d .reserves;
+      helds = d .helds;
+    }
 
 -- "zeroes the place freed"
 abbrev pub noBooking : Booking
@@ -101,7 +114,7 @@ module _ (S : Setting) where
       record {
         answer = Opened;
         report = [];
-        state = updated (record { now = 0; count = d .count; places = d .places; records = d .records; opens = d .opens; reserves = d .reserves; helds = d .helds }) 0 (d .records) [];
+        state = updated (atRound 0 d) 0 (d .records) [];
       }
   openWith d (suc k) = refused d [] (suc k)
 
@@ -179,15 +192,15 @@ module _ (S : Setting) where
   cabsJoined t taken [] = taken
   cabsJoined t taken (b ∷ bs) = cabsJoined t (bitOr taken (cabsAt S t b)) bs
 
-  -- "writes one report line per open film in list order .. and gives the films open and the number of cabs served, which is the
-  -- count of cab bits of the films showing. Then `now` rises by one."
+  -- "writes one report line per open film in list order .. and gives the films open and the number of cabs served, which is
+  -- the count of cab bits of the films showing. Then `now` rises by one."
   abbrev pub playWith : State → List Line → ℕ → Outcome
   playWith d report zero =
       let lines = linesOf S (d .now) (standing d) in
       record {
         answer = Played (length lines) (ones (cabsJoined (d .now) 0 (standing d)));
         report = written lines report;
-        state = record { now = suc (d .now); count = d .count; places = d .places; records = d .records; opens = d .opens; reserves = d .reserves; helds = d .helds };
+        state = atRound (suc (d .now)) d;
       }
   playWith d report (suc k) = refused d report (suc k)
 

@@ -1,6 +1,6 @@
--- The claim of the whole list (demand 3): "For every list of calls (bookings, drops and played rounds, refused ones too) on a day
--- opened empty, with one film file and fixed limits, where each call takes the day as the last one left it and nobody else
--- writes it, every answer and report line, and the records, sheet and round at the end, are those of the plain day in
+-- The claim of the whole list (demand 3): "For every list of calls (bookings, drops and played rounds, refused ones too) on
+-- a day opened empty, with one film file and fixed limits, where each call takes the day as the last one left it and nobody
+-- else writes it, every answer and report line, and the records, sheet and round at the end, are those of the plain day in
 -- document 01."
 use mathlib.Core.Path.{_≡_, ap, _∙_}
 use mathlib.Core.Bool.{true}
@@ -15,7 +15,8 @@ use Rattle.model.specs.Calls.{dayInRange, limitsInRange, sheetLong, soun
 use Rattle.model.specs.PlainDay.{atFirst, plainAnswers, plainReports, plainAfter, everTaken}
 use Rattle.model.specs.Expected.{argumentsOf, allWritten, expected}
 use Rattle.model.specs.Loss.{Rising}
-use Rattle.model.specs.Steps.{runs, seen, good-first, opened-accepted, opened-expected}
+use Rattle.model.specs.Steps.{seen}
+use Rattle.model.specs.Runs.{runs, good-first, opened-accepted, opened-expected}
 use Rattle.model.specs.declared.Booking.{Booking}
 use Rattle.model.specs.declared.Answer.the-variants.{Opened}
 
@@ -27,6 +28,7 @@ pub record InBetween (S : Setting) (d : State) : Type 0 where
   pub list : sound S d ≡ true
 
 -- cs are the calls, `lent` is everything lent to the opening, and `fits` is any decision which lists of bookings fit
+-- (FitLaws.antt, `decFits`, is one)
 pub record SameDay (S : Setting) (lent : State) (fits : (bs : List Booking) → Dec (Fits S bs)) (cs : List Call) : Type 0 where
   -- every answer
   pub answered : answers S (openCall S lent .state) cs ≡ plainAnswers S (lent .places) fits atFirst (map argumentsOf cs)
@@ -38,9 +40,9 @@ pub record SameDay (S : Setting) (lent : State) (fits : (bs : List Booking) → 
   -- what the next call finds
   pub between : InBetween S (afterAll S (openCall S lent .state) cs)
 
--- For every setting (film file, verdict, limits), everything lent, and every list of calls after an accepted opening. Assumes of the
--- loss that it rises (Loss.antt, which the papers' table does), and of the lent records that they are as many as the list is
--- said to have, or 256.
+-- For every setting (film file, verdict, limits), everything lent, and every list of calls after an accepted opening.
+-- Assumes of the loss that it rises, as the papers' table does (Loss.antt), and of the lent records that they are as many
+-- as the list is long, or 256.
 pub same-day : (S : Setting) (lent : State) (fits : (bs : List Booking) → Dec (Fits S bs)) → Rising (S .loss)
     → min (lent .places) maxBookings ≤ length (lent .records) → openCall S lent .answer ≡ Opened → (cs : List Call) → SameDay S lent fits cs
 same-day S lent fits rising room opened cs =

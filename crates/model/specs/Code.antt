@@ -1,5 +1,5 @@
--- The values that the code passes, as the definitions take them: a contract says that answer, day, records, sheet and report
--- afterwards are those of the call on `stateOf ..` in `settingOf ..`.
+-- The values that the code passes, as the definitions take them: a contract says that answer, day, records, sheet and
+-- report afterwards are those of the call on `stateOf ..` in `settingOf ..`.
 use mathlib.Core.List.{List}
 use Prim.Native.Nat.{ℕ, zero, suc}
 use Rattle.laws.specs.Questions.{refusal}

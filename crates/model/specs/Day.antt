@@ -1,5 +1,5 @@
--- A day: what every call is given, what is lent from call to call, a booking's rounds, and the load of a round. Document 01,
--- 'A day at the desk'.
+-- A day: what every call is given, what is lent from call to call, a booking's rounds, and the load of a round. Document
+-- 01, 'A day at the desk'.
 use mathlib.Core.Bool.{Bool, cond, _&&_}
 use mathlib.Core.List.{List, [], _∷_}
 use Prim.Native.Nat.{ℕ, _+_, _-_}
@@ -70,7 +70,7 @@ module _ (S : Setting) where
   abbrev pub scheduleOf : Booking → List ℕ
   scheduleOf b = justInTime (b .reserve) 0 (sending b)
 
-  -- "A schedule exists exactly if this gives A(0) ≤ b."
+  -- "A schedule exists exactly if this gives A(0) ≤ b." (FitLaws.antt, `exists-iff`: exactly if some list is one)
   unfoldable pub exists : Booking → Bool
   exists b = existsBy (b .reserve) (sending b)
 

@@ -1,11 +1,11 @@
--- The disk limit by starts: between two starts no film is opened, so the films open in a round are among those open at the latest start of
--- one of them, and the limit holds in every round exactly if it holds in the rounds in which a booking starts. Assumes that the
--- loss rises.
+-- The disk limit by starts: between two starts no film is opened, so the films open in a round are among those open at the
+-- latest start of one of them, and the limit holds in every round exactly if it holds in the rounds in which a booking
+-- starts. Assumes that the loss rises.
 use mathlib.Core.Path.{_≡_, refl, sym, ap₂, _∙_}
 use mathlib.Core.Logic.{_⊎_, inl, inr}
 use mathlib.Core.Bool.{Bool, true, false, cond, _&&_}
 use mathlib.Core.List.{List, [], _∷_}
-use Prim.Native.Nat.{ℕ, zero, suc, _+_, _≤_, _<_, max}
+use Prim.Native.Nat.{ℕ, _+_, _≤_, _<_, max}
 use native.Mathlib.Decide.{decLe}
 use native.Mathlib.Omega.{arith}
 use lib.ListN.{length}

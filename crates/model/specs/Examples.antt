@@ -1,5 +1,5 @@
--- Days of film 1 beyond document 01's figures, by computation over the definitions: the shift change, where one film ends in the round in which
--- the next begins, and a lent day whose sheet holds anything.
+-- Days of film 1 beyond document 01's figures, by computation over the definitions: the shift change, where one film ends
+-- in the round in which the next begins, and a lent day whose sheet holds anything.
 use mathlib.Core.Path.{_≡_, refl}
 use mathlib.Core.List.{List, [], _∷_, _++_}
 use lib.ListN.{replicate}
@@ -10,9 +10,6 @@ use Rattle.model.specs.Questions.{recordQuestions, windowOpen, bookOwn, 
 use Rattle.model.specs.Soundness.{passes, roundKept, limitsKept, soundList, fitTest}
 use Rattle.model.specs.Calls.{noBooking, roundsInRange, dayInRange, limitsInRange, sheetLong, sound, openQuestions, openCall, bookQuestions, startOf, bookCall, dropQuestions, dropCall, playQuestions, playCall, Call, dropping, playing, call, answers, reports}
 use Rattle.model.specs.Figures.{day, opened, book, line}
-use Rattle.model.specs.declared.Booking.{Booking}
-use Rattle.model.specs.declared.Line.{Line}
-use Rattle.model.specs.declared.Answer.{Answer}
 use Rattle.model.specs.declared.Answer.the-variants.{Refused, Booked, Dropped, Played}
 
 -- disk and memory for one film at a time, both bookings on cab 1, then eight rounds

@@ -33,8 +33,8 @@ allWritten (ls ∷ lss) (c ∷ cs) = written ls (lentReport c) ∷ allWritten ls
 abbrev pub otherPlaces : ℕ → ℕ → List Booking → List Booking
 otherPlaces count taken lent = replicate (taken - count) noBooking ++ drop taken lent
 
--- "At the end the first record places hold the standing bookings in order, the count is theirs and `now` is r. The sheet gives for
--- each of the T rounds how many of them are open, and the sums of their b and of the bytes their schedules hold."
+-- "At the end the first record places hold the standing bookings in order, the count is theirs and `now` is r. The sheet
+-- gives for each of the T rounds how many of them are open, and the sums of their b and of the bytes their schedules hold."
 abbrev pub expected : Setting → State → PlainDay → ℕ → State
 expected S lent s taken =
     let bs = s .standing in

@@ -1,22 +1,20 @@
--- The starred lines of document 01, 'Figures for film 1', and the session of 'The program', in one table, by computation over the
--- definitions. The loss is the papers' table.
+-- The starred lines of document 01, 'Figures for film 1', and the session of 'The program', in one table, by computation
+-- over the definitions. The loss is the papers' table.
 use mathlib.Core.Path.{_≡_, refl}
 use mathlib.Core.List.{List, [], _∷_}
 use Prim.Native.Nat.{ℕ}
 use lib.ListN.{replicate}
 use lib.Count.{ones, onesIn}
 use Rattle.limits.specs.Bounds.{hallRounds, hallPlaces}
-use Rattle.films.specs.Layout.{Film}
 use Rattle.retrieval.specs.Figures.{film1, ScheduleFigures, schedule-figures}
 use Rattle.loss.specs.Loss.{table}
 use Rattle.model.specs.Loss.{lossAt}
 use Rattle.model.specs.Day.{Setting, State, openAt, showsAt, exists}
 use Rattle.model.specs.Questions.{recordQuestions, windowOpen, bookOwn, dropOwn, playOwn}
 use Rattle.model.specs.Soundness.{passes, roundKept, limitsKept, soundList, fitTest}
-use Rattle.model.specs.Calls.{noBooking, roundsInRange, dayInRange, limitsInRange, sheetLong, sound, openQuestions, openCall, bookQuestions, startOf, bookCall, dropQuestions, dropCall, playQuestions, playCall, Call, booking, dropping, playing, answers, reports, afterAll}
+use Rattle.model.specs.Calls.{roundsInRange, dayInRange, limitsInRange, sheetLong, sound, openQuestions, openCall, bookQuestions, startOf, bookCall, dropQuestions, dropCall, playQuestions, playCall, Call, booking, playing, answers, reports}
 use Rattle.model.specs.declared.Line.{Line}
-use Rattle.model.specs.declared.Answer.{Answer}
-use Rattle.model.specs.declared.Answer.the-variants.{Refused, Opened, Booked, Dropped, Played}
+use Rattle.model.specs.declared.Answer.the-variants.{Refused, Opened, Booked, Played}
 
 -- "OPEN 20 141433 18" and others: "Film 1 .. is the only film."
 abbrev pub day : ℕ → ℕ → Setting

@@ -1,6 +1,7 @@
--- Demand 3: "Any booking that passes the earlier questions, in such a list or on any other lent day, starts in the first round of its
--- window at which some underflow-free schedules, for it and for all standing bookings at their own reserves and starts, would
--- fit the limits and leave its cabs free; it is refused 22 exactly when its window has no such round." Assumes nothing.
+-- Demand 3: "Any booking that passes the earlier questions, in such a list or on any other lent day, starts in the first
+-- round of its window at which some underflow-free schedules, for it and for all standing bookings at their own reserves
+-- and starts, would fit the limits and leave its cabs free; it is refused 22 exactly when its window has no such round."
+-- Assumes nothing.
 use mathlib.Core.Path.{_≡_, refl, sym, _∙_}
 use mathlib.Core.Logic.{_↔_, _⊎_, inl, inr, ⊎-elim}
 use mathlib.Core.Bool.{Bool, true, false, cond, true≢false}
@@ -13,7 +14,6 @@ use Rattle.limits.specs.Refusals.{noStart}
 use Rattle.model.specs.Day.{Setting, State, recordOf}
 use Rattle.model.specs.Fit.{Fits, FitsAt, Found, nowhere, at, search, firstOf, First, None}
 use Rattle.model.specs.Answers.{numberOf, valuesOf}
-use Rattle.model.specs.Soundness.{fitTest}
 use Rattle.model.specs.Calls.{standing, bookQuestions, startOf, bookWith, bookCall}
 use Rattle.model.specs.PlainDay.{PlainDay, booking, does, plainNumber, plainStart, plainBook, plainCall}
 use Rattle.model.specs.FitLaws.{fits-iff}
@@ -71,7 +71,8 @@ first-start P f first last w = go (firstOf f first last) (search-finds f first (
 
 -- ---- the claim
 
--- the answer is a start, the first of the window that has P; or it is 22, which is so exactly if no start of the window has P
+-- the answer is a start, the first of the window that has P; or it is 22, which is so exactly if no start of the window has
+-- P
 pub record AnswersFirst (P : ℕ → Type 0) (first last : ℕ) (a : Answer) : Type 0 where
   pub either : (numberOf a ≡ 0) ⊎ (numberOf a ≡ noStart)
   pub booked : numberOf a ≡ 0 → (s : ℕ) × (valuesOf a ≡ s ∷ []) × First P first last s

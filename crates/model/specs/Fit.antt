@@ -1,7 +1,7 @@
--- When a list of bookings fits a day: some schedules keep the limits and the cabs. Document 01, 'The plain day': "A start fits
--- if there are schedules, for this booking there and for each standing one at its own start, each with its own film, p and b,
--- with which in every round of the day the b of the open bookings plus loss(their number) are at most D, the bytes held add up
--- to at most M, and no cab shows two films."
+-- When a list of bookings fits a day: some schedules keep the limits and the cabs. Document 01, 'The plain day': "A start
+-- fits if there are schedules, for this booking there and for each standing one at its own start, each with its own film, p
+-- and b, with which in every round of the day the b of the open bookings plus loss(their number) are at most D, the bytes
+-- held add up to at most M, and no cab shows two films."
 use mathlib.Core.Bool.{Bool, cond}
 use mathlib.Core.List.{List, [], _∷_, _++_}
 use Prim.Native.Nat.{ℕ, zero, suc, _+_, _-_, _≤_, _<_}

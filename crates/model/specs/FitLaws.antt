@@ -1,5 +1,5 @@
--- A list of bookings fits exactly if the desk's test by the just-in-time schedules says so: these hold no more than any others in
--- each round, and the disk and the cabs do not turn on the schedules. Assumes nothing.
+-- A list of bookings fits exactly if the desk's test by the just-in-time schedules says so: these hold no more than any
+-- others in each round, and the disk and the cabs do not turn on the schedules. Assumes nothing.
 use mathlib.Core.Path.{_≡_, refl, sym, ap, _∙_}
 use mathlib.Core.Logic.{_↔_}
 use mathlib.Core.Bool.{Bool, true, false, cond, _&&_, true≢false}
@@ -10,12 +10,12 @@ use lib.ListN.{length, getD}
 use lib.Dec.{leb, ltb, eqb}
 use lib.Bits.{bitAnd, bitOr}
 use borrow.Author.Tests.{leb-true, ltb-true, eqb-true, le-leb, eq-eqb}
-use Rattle.laws.specs.Tests.{left, right, join, all, below, below-at, below-all}
+use Rattle.laws.specs.Tests.{left, right, join, all, below-at, below-all}
 use Rattle.laws.specs.Bits.{bit, bit-and, bit-or, bit-lt, bit-none, apart-and}
 use Rattle.films.specs.Layout.{sizesOf}
 use Rattle.retrieval.specs.Schedule.{sends, helds}
 use Rattle.retrieval.specs.JustInTime.{justInTime}
-use Rattle.retrieval.specs.Carry.{carry, profile}
+use Rattle.retrieval.specs.Carry.{carry}
 use Rattle.retrieval.specs.Laws.{due-carry, justInTime-schedule, schedule-carry, reads-helds, justInTime-helds}
 use Rattle.model.specs.Day.{Setting, sending, ends, openAt, cabsAt, scheduleOf, exists, heldAt, opened, reserved, held, showing}
 use Rattle.model.specs.Fit.{Allowed, Schedules, heldBy, Kept, Fits}

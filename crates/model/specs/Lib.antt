@@ -1,5 +1,7 @@
--- A day by definition (document 01, from 'A day at the desk' on), and what is proved of every list of calls. The definitions, in
--- the order to read them in; then their laws.
+-- A day by definition (document 01, from 'A day at the desk' on), and what is proved of every list of calls.
+
+-- ---- Definitions, in the order to read them in
+
 pub mod Day
 pub mod Fit
 pub mod Questions
@@ -11,21 +13,30 @@ pub mod Calls
 pub mod Loss
 pub mod Expected
 pub mod Code
-pub mod FitLaws
+-- ---- Claims, for every setting, everything lent and every list of calls
+
 pub mod FirstFit
+pub mod Claim
+pub mod Safety
+pub mod Order
+pub mod Unchanged
+-- ---- Figures, by computation
+
+pub mod Figures
+pub mod Examples
+-- ---- Laws that the claims rest on
+
+pub mod FitLaws
 pub mod SoundLaws
 pub mod PlayLaws
 pub mod PlacesLaws
 pub mod Steps
-pub mod Claim
-pub mod CodeLaws
-pub mod DiskLaws
-pub mod SoundTest
+pub mod Runs
 pub mod ReportLaws
 pub mod UnreadLaws
-pub mod Safety
-pub mod Figures
-pub mod Order
-pub mod Unchanged
-pub mod Examples
-pub mod FitBeside
+-- ---- Laws for the code
+
+pub mod CabLaws
+pub mod DiskLaws
+pub mod SoundTest
+pub mod CodeLaws

@@ -1,5 +1,5 @@
--- The numbers of each call's questions, in the paper's order, and that they decide the answer (demand 1: "one refusal number chosen by the
--- fixed order of questions"). For every setting and everything lent and given. Assumes nothing.
+-- The numbers of each call's questions, in the paper's order, and that they decide the answer (demand 1: "one refusal
+-- number chosen by the fixed order of questions"). For every setting and everything lent and given. Assumes nothing.
 use mathlib.Core.Path.{_≡_, refl, sym}
 use mathlib.Core.Bool.{Bool, true, false, cond}
 use mathlib.Core.List.{List, [], _∷_, _++_}

@@ -47,10 +47,11 @@ abbrev pub does : {A : Type 0} → Dec A → Bool
 does (yes a) = true
 does (no a) = false
 
--- "It is fed what an accepted opening was given, the film file, the record list's length": the setting and `places`. `fits` is any
--- decision which lists of bookings fit; FirstFit.antt, `plain-first`, says what that makes of a start.
+-- "It is fed what an accepted opening was given, the film file, the record list's length": the setting and `places`. `fits`
+-- is any decision which lists of bookings fit; FirstFit.antt, `plain-first`, says what that makes of a start.
 module _ (S : Setting) (places : ℕ) (fits : (bs : List Booking) → Dec (Fits S bs)) where
-  -- "Each call puts the file's questions, then its own from 18, 19 or 23 on, to these": the number of the first that says no
+  -- "Each call puts the file's questions, then its own from 18, 19 or 23 on, to these": the number of the first that says
+  -- no
   abbrev pub plainNumber : PlainDay → Arguments → ℕ
   plainNumber s (booking q) = refusal (fileQuestion S ∷ bookOwn S (s .standing) (length (s .standing)) places (s .round) q)
   plainNumber s (dropping name) = refusal (fileQuestion S ∷ dropOwn S (s .standing) name)

@@ -1,5 +1,6 @@
--- A report line by the carry, as the code computes it, is the line by the schedule rule; there is a line for each open film; and where no
--- cab shows two films, the cab bits of the films showing count as those of their joined cabs. Assumes nothing.
+-- A report line by the carry, as the code computes it, is the line by the schedule rule; there is a line for each open
+-- film; and where no cab shows two films, the cab bits of the films showing count as those of their joined cabs. Assumes
+-- nothing.
 use mathlib.Core.Path.{_≡_, refl, ap, _∙_}
 use mathlib.Core.Bool.{Bool, true, false, cond}
 use mathlib.Core.List.{List, [], _∷_}

@@ -1,5 +1,5 @@
--- The questions at the counter that a call puts of its own, in the paper's order: booking's from 18 on, drop's 19, play's from
--- 23 on. Calls.antt puts those before them. Document 01, 'Questions at the counter'.
+-- The questions at the counter that a call puts of its own, in the paper's order: booking's from 18 on, drop's 19, play's
+-- from 23 on. Calls.antt puts those before them. Document 01, 'Questions at the counter'.
 use mathlib.Core.Bool.{Bool, false, not, _&&_, _||_}
 use mathlib.Core.List.{List, [], _∷_, _++_}
 use Prim.Native.Nat.{ℕ}
@@ -36,8 +36,9 @@ module _ (S : Setting) where
   unfoldable pub windowOpen : ℕ → Request → Bool
   windowOpen now q = leb now (q .first) && (leb (q .first) (q .last) && leb (ends S (recordOf q (q .last))) (S .rounds))
 
-  -- "Is the name new? 18. Then 8, 9, 10. Is some cab named? 20. Then 12. Is now ≤ first ≤ last and last+p+n ≤ T? 21. Is there a
-  -- place below both 256 and the list's length? 17.", of the standing bookings, their number, the list's length and the round
+  -- "Is the name new? 18. Then 8, 9, 10. Is some cab named? 20. Then 12. Is now ≤ first ≤ last and last+p+n ≤ T? 21. Is
+  -- there a place below both 256 and the list's length? 17.", of the standing bookings, their number, the list's length and
+  -- the round
   unfoldable pub bookOwn : List Booking → ℕ → ℕ → ℕ → Request → List Question
   bookOwn bs count places now q =
       (not (hasName (q .name) bs), nameTaken)

@@ -1,5 +1,5 @@
--- The report of a round. Document 01, 'The plain day': "for each booking open in r, in order, with t = r - s and A its schedule by
--- the rule above: name, A(t) - A(t-1), C(t) - C(t-1), A(t) - C(t-1)".
+-- The report of a round. Document 01, 'The plain day': "for each booking open in r, in order, with t = r - s and A its
+-- schedule by the rule above: name, A(t) - A(t-1), C(t) - C(t-1), A(t) - C(t-1)".
 use mathlib.Core.Bool.{cond}
 use mathlib.Core.List.{List, [], _∷_, _++_}
 use Prim.Native.Nat.{ℕ, _+_, _-_, _≤_}

@@ -1,5 +1,5 @@
--- Every report is within the limits: an open booking reads at most its reserve, and holds what its schedule holds. Assumes what
--- `Accepted` says.
+-- Every report is within the limits: an open booking reads at most its reserve, and holds what its schedule holds. Assumes
+-- what `Accepted` says.
 use mathlib.Core.Path.{_≡_, refl, sym}
 use mathlib.Core.Bool.{Bool, true, false, cond}
 use mathlib.Core.List.{List, [], _∷_, map}

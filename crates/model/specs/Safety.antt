@@ -1,5 +1,5 @@
--- Safety (demand 3): "In no round does a film send an unread byte, is a limit passed or is a cab given two films", for every list of
--- calls.
+-- Safety (demand 3): "In no round does a film send an unread byte, is a limit passed or is a cab given two films", for
+-- every list of calls.
 use mathlib.Core.Path.{_≡_, refl, sym, ap, ap₂, _∙_, subst}
 use mathlib.Core.Logic.{inl, inr}
 use mathlib.Core.Bool.{Bool, true, cond}
@@ -24,7 +24,8 @@ use Rattle.model.specs.Expected.{argumentsOf, lentReport, expected}
 use Rattle.model.specs.FitLaws.{now-kept, decFits}
 use Rattle.model.specs.FirstFit.{Finds, search-finds}
 use Rattle.model.specs.SoundLaws.{sound-exist, asked}
-use Rattle.model.specs.Steps.{Accepted, Good, step, runs, good-first, stands-is, opened-accepted, opened-expected}
+use Rattle.model.specs.Steps.{Accepted, Good, step, stands-is}
+use Rattle.model.specs.Runs.{runs, good-first, opened-accepted, opened-expected}
 use Rattle.model.specs.ReportLaws.{within-all}
 use Rattle.model.specs.UnreadLaws.{linesSince, Stands, stands-last, sentBefore, readBefore, fed}
 use Rattle.model.specs.declared.Booking.{Booking}
@@ -50,7 +51,8 @@ module _ (S : Setting) where
   allLines d [] = []
   allLines d (c ∷ cs) = callLines d c ∷ allLines (call S d c .state) cs
 
-  -- the lines of the booking that stands under this name, for as long as it stands: the same name booked again is another booking
+  -- the lines of the booking that stands under this name, for as long as it stands: the same name booked again is another
+  -- booking
   abbrev pub linesFor : ℕ → State → List Call → List Line
   linesFor n d [] = []
   linesFor n d (c ∷ cs) =

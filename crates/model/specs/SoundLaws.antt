@@ -1,9 +1,9 @@
--- A sound list stays sound: with an accepted booking at its end, and without a dropped one. Assumes nothing but, for the drop, that
--- the loss rises.
+-- A sound list stays sound: with an accepted booking at its end, and without a dropped one. Assumes nothing but, for the
+-- drop, that the loss rises.
 use mathlib.Core.Path.{_≡_, refl, sym, ap}
 use mathlib.Core.Bool.{Bool, true, false, cond, not, _&&_, _||_, true≢false, false≢true}
 use mathlib.Core.List.{List, [], _∷_, _++_, append-nil}
-use Prim.Native.Nat.{ℕ, zero, suc, _+_, _≤_, _<_}
+use Prim.Native.Nat.{ℕ, suc, _+_, _≤_, _<_}
 use native.Mathlib.Nat.{le-trans}
 use native.Mathlib.Omega.{arith}
 use lib.ListN.{length}

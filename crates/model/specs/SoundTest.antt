@@ -1,21 +1,21 @@
--- The soundness of a list without a sheet, as the code tests it: the cabs by pairs of bookings, the disk at the starts, and only the memory
--- round by round. Assumes that the loss rises.
+-- The soundness of a list without a sheet, as the code tests it: the cabs by pairs of bookings, the disk at the starts, and
+-- only the memory round by round. Assumes that the loss rises.
 use mathlib.Core.Path.{_≡_, refl}
 use mathlib.Core.Bool.{Bool, true, not, _&&_}
 use mathlib.Core.List.{List, [], _∷_}
-use Prim.Native.Nat.{ℕ, _+_, _≤_, _<_}
+use Prim.Native.Nat.{ℕ, _≤_, _<_}
 use lib.ListN.{length}
 use lib.Dec.{leb, eqb}
 use borrow.Author.Tests.{leb-true, le-leb}
 use Rattle.laws.specs.Tests.{left, right, join, all, below, below-at, below-all}
 use Rattle.limits.specs.Bounds.{maxPrefetch, maxReserve, maxBookings}
 use Rattle.films.specs.Layout.{inFile}
-use Rattle.model.specs.Day.{Setting, ends, exists, opened, reserved, held, showing}
+use Rattle.model.specs.Day.{Setting, ends, exists, held}
 use Rattle.model.specs.Soundness.{namesDiffer, passes, soundList}
 use Rattle.model.specs.Loss.{Rising}
 use Rattle.model.specs.FitLaws.{Round, round-says, says-round, limits-round, round-limits}
-use Rattle.model.specs.SoundLaws.{all-map, Passed, passes-held, held-passes, Sound, sound-says, says-sound, sound-exist}
-use Rattle.model.specs.CodeLaws.{pairsClear, pairs-showing, pairs-iff}
+use Rattle.model.specs.SoundLaws.{all-map, passes-held, held-passes, sound-says, says-sound, sound-exist}
+use Rattle.model.specs.CabLaws.{pairsClear, pairs-showing, pairs-iff}
 use Rattle.model.specs.DiskLaws.{same-test, diskAt, diskAtStarts, disk-all-starts}
 use Rattle.model.specs.declared.Booking.{Booking}
 

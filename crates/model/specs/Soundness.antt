@@ -1,6 +1,6 @@
--- 16: "Is the list sound? (at most 256 records, within the list; names differ; each passes 8, 9, 10, 20 and 12; s+p+n ≤ T; limits
--- and cabs kept in every round)". Also the desk's test whether a list of bookings fits: FitLaws.antt proves that it says
--- exactly what `Fits` says.
+-- 16: "Is the list sound? (at most 256 records, within the list; names differ; each passes 8, 9, 10, 20 and 12; s+p+n ≤ T;
+-- limits and cabs kept in every round)". Also the desk's test whether a list of bookings fits: FitLaws.antt proves that it
+-- says exactly what `Fits` says.
 use mathlib.Core.Bool.{Bool, true, not, _&&_}
 use mathlib.Core.List.{List, [], _∷_}
 use Prim.Native.Nat.{ℕ, _+_}

@@ -1,6 +1,6 @@
--- Each call keeps the lent day the one that the plain day expects, and its list sound; so does a list of calls. The invariant is `Good`:
--- a sound list of at most 256 standing bookings, `now` at most T, and at least as many places ever taken as bookings stand. Assumes
--- what `Accepted` says.
+-- Each call keeps the lent day the one that the plain day expects, and its list sound; so does a list of calls. The
+-- invariant is `Good`: a sound list of at most 256 standing bookings, `now` at most T, and at least as many places ever
+-- taken as bookings stand. Assumes what `Accepted` says.
 use mathlib.Core.Path.{_≡_, refl, sym, ap, ap₂, _∙_, subst}
 use mathlib.Core.Logic.{_↔_}
 use mathlib.Core.Bool.{Bool, true, false}
@@ -16,25 +16,25 @@ use Rattle.laws.specs.Tests.{right, join, all}
 use Rattle.laws.specs.Questions.{Question, refusal, refusal-held}
 use Rattle.laws.specs.Bits.{bit-none}
 use Rattle.limits.specs.Bounds.{maxBookings}
-use Rattle.limits.specs.Refusals.{noStart, noName, dayOver, noRoom, dayRounds, dayLimits}
+use Rattle.limits.specs.Refusals.{noStart, noName, dayOver, noRoom}
 use Rattle.model.specs.Day.{Setting, State, recordOf, total, cabsAt, scheduleOf, exists, opened, held}
 use Rattle.model.specs.Fit.{heldBy, Fits, Found, nowhere, at, search, firstOf}
 use Rattle.model.specs.Questions.{hasName, fileQuestion, bookOwn, dropOwn, playOwn}
 use Rattle.model.specs.Report.{linesOf, written}
 use Rattle.model.specs.Soundness.{apart, limitsKept, fitTest}
-use Rattle.model.specs.Calls.{Outcome, standing, noBooking, perRound, without, updated, roundsInRange, dayInRange, limitsInRange, sheetLong, sound, openQuestions, openWith, openCall, bookQuestions, startOf, bookWith, bookCall, dropQuestions, dropWith, dropCall, playQuestions, cabsJoined, playWith, playCall, Call, booking, dropping, playing, call, answers, reports, afterAll}
-use Rattle.model.specs.PlainDay.{PlainDay, atFirst, Arguments, PlainOutcome, does, plainRefused, plainBook, plainDrop, plainPlay, plainCall, plainAnswers, plainReports, plainAfter, everTaken}
+use Rattle.model.specs.Calls.{Outcome, standing, noBooking, without, updated, roundsInRange, dayInRange, limitsInRange, sheetLong, sound, bookQuestions, startOf, bookWith, bookCall, dropQuestions, dropWith, dropCall, playQuestions, cabsJoined, playWith, playCall, Call, booking, dropping, playing, call}
+use Rattle.model.specs.PlainDay.{PlainDay, PlainOutcome, does, plainRefused, plainBook, plainDrop, plainPlay, plainCall}
 use Rattle.model.specs.Loss.{Rising}
-use Rattle.model.specs.Expected.{argumentsOf, lentReport, allWritten, otherPlaces, expected}
-use Rattle.model.specs.FitLaws.{fits-iff, rule-held, round-limits, limits-round, says-round, round-says, showing-apart}
+use Rattle.model.specs.Expected.{argumentsOf, lentReport, otherPlaces, expected}
+use Rattle.model.specs.FitLaws.{fits-iff, rule-held, limits-round, round-says, showing-apart}
 use Rattle.model.specs.FirstFit.{Finds, search-finds}
-use Rattle.model.specs.SoundLaws.{without-others, Sound, says-sound, sound-exist, sound-snoc, sound-without, length-without, asked, passes-at, file-held}
+use Rattle.model.specs.SoundLaws.{without-others, Sound, says-sound, sound-snoc, sound-without, length-without, asked, passes-at, file-held}
 use Rattle.model.specs.PlayLaws.{cabs-count}
 use Rattle.model.specs.PlacesLaws.{workedOut-twice, workedOut-long, perRound-same, places-next, places-freed, same-state}
 use Rattle.model.specs.declared.Booking.{Booking}
 use Rattle.model.specs.declared.Request.{Request}
 use Rattle.model.specs.declared.Line.{Line}
-use Rattle.model.specs.declared.Answer.the-variants.{Refused, Opened, Dropped, Played}
+use Rattle.model.specs.declared.Answer.the-variants.{Refused, Dropped, Played}
 
 -- ---- the search
 
@@ -305,81 +305,3 @@ module _ (S : Setting) (lent : State) (fits : (bs : List Booking) → Dec (Fits 
   step s m g (booking q) = book-step s m q g
   step s m g (dropping name) = drop-step s m name g
   step s m g (playing report) = play-step s m report g
-
-  -- ---- a list of calls
-
-  ever-least : (s : PlainDay) (cs : List Arguments) → length (s .standing) ≤ everTaken S ((lent .places)) fits s cs
-  ever-least s [] = omega arith
-  ever-least s (c ∷ cs) = omega arith
-
-  pub record Runs (d : State) (s : PlainDay) (m : ℕ) (cs : List Call) : Type 0 where
-    pub answered : answers S d cs ≡ plainAnswers S ((lent .places)) fits s (map argumentsOf cs)
-    pub reported : reports S d cs ≡ allWritten (plainReports S ((lent .places)) fits s (map argumentsOf cs)) cs
-    pub ended : afterAll S d cs
-        ≡ expected S lent (plainAfter S ((lent .places)) fits s (map argumentsOf cs)) (max m (everTaken S ((lent .places)) fits s (map argumentsOf cs)))
-    pub good : Good (plainAfter S ((lent .places)) fits s (map argumentsOf cs)) (max m (everTaken S ((lent .places)) fits s (map argumentsOf cs)))
-
-  pub runs : (cs : List Call) (s : PlainDay) (m : ℕ) → Good s m → Runs (expected S lent s m) s m cs
-  runs [] s m g =
-      let x : m ≡ max m (length (s .standing)) = omega (arith, g .most) in
-      record { answered = refl; reported = refl; ended = ap (expected S lent s) x; good = rw (← x) g }
-  runs (c ∷ cs) s m g =
-      let v = step s m g c in
-      let s′ = plainCall S ((lent .places)) fits s (argumentsOf c) .after in
-      let m′ = max m (length (s′ .standing)) in
-      let i : Runs (call S (expected S lent s m) c .state) s′ m′ cs = rw (v .state) (runs cs s′ m′ (v .good)) in
-      let E = everTaken S ((lent .places)) fits s′ (map argumentsOf cs) in
-      let x : max m′ E ≡ max m (max (length (s .standing)) E) = omega (arith, g .most, ever-least s′ (map argumentsOf cs)) in
-      record {
-        answered = cc (v .answer, i .answered);
-        reported = cc (v .report, i .reported);
-        ended = i .ended ∙ ap (expected S lent (plainAfter S ((lent .places)) fits s′ (map argumentsOf cs))) x;
-        good = rw x at (i .good);
-      }
-
-  pub good-first : Good atFirst 0
-  good-first =
-      record {
-        clock = omega arith;
-        few = omega arith;
-        most = omega arith;
-        room = omega arith;
-        sound =
-            record {
-              names = refl;
-              passed = refl;
-              kept =
-                  round-limits S []
-                  (λ t b. says-round S [] t (record {
-                    disk = omega (arith, accepted .rising .none);
-                    memory = omega arith;
-                    cabs = λ k. omega arith;
-                  }));
-            };
-      }
-
--- ---- the opening
-
--- no question of an accepted one says no
-open-held : (S : Setting) (lent : State) → openCall S lent .answer ≡ Opened → refusal (openQuestions S lent) ≡ 0
-unfolding openCall
-open-held S lent e = go (refusal (openQuestions S lent)) e
-  where
-    go : (n : ℕ) → openWith S lent n .answer ≡ Opened → n ≡ 0
-    go zero u = refl
-    go (suc k) u = let z : _≡_ {A = ℕ} 0 1 = cc in absurd (omega arith)
-
-pub opened-accepted : (S : Setting) (lent : State) → Rising (S .loss) → min (lent .places) maxBookings ≤ length (lent .records)
-    → openCall S lent .answer ≡ Opened → Accepted S lent
-unfolding openQuestions
-opened-accepted S lent rising room e =
-    let q11 : List Question = (sheetLong S lent, noRoom) ∷ [] in
-    let q15 : List Question = (limitsInRange S, dayLimits) ∷ q11 in
-    let a14 = refusal-held (roundsInRange S) dayRounds q15 (omega arith) (open-held S lent e) in
-    let a15 = refusal-held (limitsInRange S) dayLimits q11 (omega arith) (a14 .1) in
-    record { rising = rising; rounds = a14 .0; limits = a15 .0; room = room }
-
--- it leaves what the plain day expects at first
-pub opened-expected : (S : Setting) (lent : State) → openCall S lent .answer ≡ Opened → openCall S lent .state ≡ expected S lent atFirst 0
-unfolding openCall
-opened-expected S lent e = ap (λ (n : ℕ). openWith S lent n .state) (open-held S lent e)

@@ -1,5 +1,5 @@
--- "A refusal returns its number only and changes nothing lent, except that 22 leaves the sheet of the bookings as they stand." (demand 1)
--- For every setting and everything lent and given. Assumes nothing.
+-- "A refusal returns its number only and changes nothing lent, except that 22 leaves the sheet of the bookings as they
+-- stand." (demand 1) For every setting and everything lent and given. Assumes nothing.
 use mathlib.Core.Path.{_≡_, refl}
 use mathlib.Core.List.{List, []}
 use Prim.Native.Nat.{ℕ, zero, suc, _<_}

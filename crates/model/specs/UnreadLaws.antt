@@ -1,6 +1,6 @@
--- No unread byte: on one booking's lines since it was accepted, the sends up to any line add up to at most the reads up to it. The
--- invariant `Fed` says so of the lines to come, together with what its schedule sent and read in its rounds before. Assumes what
--- `Accepted` says.
+-- No unread byte: on one booking's lines since it was accepted, the sends up to any line add up to at most the reads up to
+-- it. The invariant `Fed` says so of the lines to come, together with what its schedule sent and read in its rounds before.
+-- Assumes what `Accepted` says.
 use mathlib.Core.Path.{_≡_, refl, sym, ap, _∙_, subst}
 use mathlib.Core.Logic.{_⊎_, inl, inr}
 use mathlib.Core.Bool.{Bool, true, false, cond, not, _&&_, _||_, true≢false}
