@@ -8,7 +8,7 @@ use Prim.Native.Nat.{ℕ, zero, suc, _-_, _≤_, min, max}
 use native.Mathlib.Omega.{arith}
 use lib.ListN.{length, getD, take}
 use lib.Seq.{take-append-seam}
-use Rattle.laws.specs.Tests.{left, right, join, all}
+use Rattle.laws.specs.Tests.{left, right, all}
 use Rattle.laws.specs.Questions.{refusal}
 use Rattle.limits.specs.Bounds.{maxBookings}
 use Rattle.retrieval.specs.Schedule.{totals}
@@ -16,14 +16,13 @@ use Rattle.model.specs.Day.{Setting, State, recordOf, sending, scheduleO
 use Rattle.model.specs.Fit.{Kept, Fits, Found, nowhere, at}
 use Rattle.model.specs.Questions.{hasName, fileQuestion, bookOwn}
 use Rattle.model.specs.Report.{written, sumRead, sumSend, EachWithin, ofName}
-use Rattle.model.specs.Soundness.{fitTest}
 use Rattle.model.specs.Calls.{Outcome, standing, openCall, Call, booking, dropping, playing, call, afterAll}
 use Rattle.model.specs.PlainDay.{PlainDay, atFirst, PlainOutcome, does, plainBook, plainDrop, plainPlay, plainNumber, plainStart, plainCall, plainReports, plainAfter, everTaken}
 use Rattle.model.specs.Loss.{Rising}
 use Rattle.model.specs.Expected.{argumentsOf, lentReport, expected}
-use Rattle.model.specs.FitLaws.{now-kept, decFits}
+use Rattle.model.specs.FitLaws.{decFits}
 use Rattle.model.specs.FirstFit.{Finds, search-finds}
-use Rattle.model.specs.SoundLaws.{sound-exist, asked}
+use Rattle.model.specs.SoundLaws.{sound-exist, sound-kept, asked}
 use Rattle.model.specs.Steps.{Accepted, Good, step, stands-is}
 use Rattle.model.specs.Runs.{runs, good-first, opened-accepted, opened-expected}
 use Rattle.model.specs.ReportLaws.{within-all}
@@ -155,7 +154,6 @@ module _ (S : Setting) (lent : State) (fits : (bs : List Booking) → Dec (Fits 
 
 -- the day that the plain day expects at first
 expected-safe : (S : Setting) (lent : State) → Accepted S lent → Safe S (expected S lent atFirst 0)
-unfolding fitTest
 expected-safe S lent accepted =
     let fits = decFits S in
     let g0 = good-first S lent fits accepted in
@@ -166,7 +164,7 @@ expected-safe S lent accepted =
           let r = runs S lent fits accepted cs atFirst 0 g0 in
           let s = plainAfter S N fits atFirst (map argumentsOf cs) in
           let st : standing (afterAll S first cs) ≡ s .standing = ap standing (r .ended) ∙ stands-is S lent fits accepted s _ in
-          rw st (now-kept S (s .standing) (join (sound-exist S (s .standing) (r .good .sound)) (r .good .sound .kept)));
+          rw st (sound-kept S (s .standing) (r .good .sound));
       within = λ cs.
           subst (EachWithin S) (sym (all-lines S lent fits accepted cs atFirst 0 g0)) (within-all S lent fits accepted cs atFirst 0 g0);
       unread = λ before q x said after k.

@@ -2,7 +2,7 @@
 -- drop, that the loss rises.
 use mathlib.Core.Path.{_≡_, refl, sym, ap}
 use mathlib.Core.Bool.{Bool, true, false, cond, not, _&&_, _||_, true≢false, false≢true}
-use mathlib.Core.List.{List, [], _∷_, _++_, append-nil}
+use mathlib.Core.List.{List, [], _∷_, _++_, map, append-nil}
 use Prim.Native.Nat.{ℕ, suc, _+_, _≤_, _<_}
 use native.Mathlib.Nat.{le-trans}
 use native.Mathlib.Omega.{arith}
@@ -14,12 +14,13 @@ use Rattle.laws.specs.Questions.{Question, refusal, refusal-held}
 use Rattle.limits.specs.Bounds.{maxPrefetch, maxReserve, maxBookings}
 use Rattle.limits.specs.Refusals.{noFilm, prefetchBound, reserveBound, noSchedule, listFull, nameTaken, noCab, windowBound}
 use Rattle.films.specs.Layout.{inFile}
-use Rattle.model.specs.Day.{Setting, recordOf, total, ends, openAt, exists, opened}
+use Rattle.model.specs.Day.{Setting, recordOf, total, ends, openAt, scheduleOf, exists, opened}
+use Rattle.model.specs.Fit.{Kept}
 use Rattle.model.specs.Questions.{hasName, fileQuestion, recordQuestions, windowOpen, bookOwn}
-use Rattle.model.specs.Soundness.{namesDiffer, passes, limitsKept, soundList}
+use Rattle.model.specs.Soundness.{namesDiffer, passes, limitsKept, soundList, fitTest}
 use Rattle.model.specs.Calls.{without}
 use Rattle.model.specs.PlainDay.{others}
-use Rattle.model.specs.FitLaws.{round-says, says-round, limits-round, round-limits}
+use Rattle.model.specs.FitLaws.{round-says, says-round, limits-round, round-limits, now-kept}
 use Rattle.model.specs.Loss.{Rising}
 use Rattle.model.specs.declared.Booking.{Booking}
 use Rattle.model.specs.declared.Request.{Request}
@@ -202,6 +203,11 @@ module _ (S : Setting) where
 
   pub sound-exist : (bs : List Booking) → Sound bs → all (exists S) bs ≡ true
   sound-exist bs s = all-map (passes S) (exists S) bs passes-exists (s .passed)
+
+  -- the standing bookings of a sound list keep limits and cabs in every round, each with its schedule by the rule
+  pub sound-kept : (bs : List Booking) → Sound bs → Kept S bs (map (scheduleOf S) bs)
+  unfolding fitTest
+  sound-kept bs s = now-kept S bs (join (sound-exist bs s) (s .kept))
 
   -- ---- an accepted booking
 

@@ -1,16 +1,16 @@
 -- "A refusal returns its number only and changes nothing lent, except that 22 leaves the sheet of the bookings as they
--- stand." (demand 1) For every setting and everything lent and given. Assumes nothing.
-use mathlib.Core.Path.{_≡_, refl}
-use mathlib.Core.List.{List, []}
+-- stand." (demand 1) And what an accepted opening leaves. For every setting and everything lent and given. Assumes nothing.
+use mathlib.Core.Path.{_≡_, refl, ap}
+use mathlib.Core.List.{List, [], _∷_, _++_}
 use Prim.Native.Nat.{ℕ, zero, suc, _<_}
 use native.Mathlib.Omega.{arith}
-use lib.ListN.{length}
+use lib.ListN.{length, drop, replicate}
 use Rattle.laws.specs.Questions.{refusal}
 use Rattle.limits.specs.Refusals.{noStart}
 use Rattle.model.specs.Day.{Setting, State, opened, reserved, held}
 use Rattle.model.specs.Fit.{Found, nowhere, at}
 use Rattle.model.specs.Answers.{numberOf}
-use Rattle.model.specs.Calls.{Outcome, standing, workedOut, openQuestions, openWith, openCall, bookQuestions, startOf, bookWith, bookCall, dropQuestions, dropWith, dropCall, playQuestions, playWith, playCall}
+use Rattle.model.specs.Calls.{Outcome, standing, perRound, workedOut, openQuestions, openWith, openCall, bookQuestions, startOf, bookWith, bookCall, dropQuestions, dropWith, dropCall, playQuestions, playWith, playCall}
 use Rattle.model.specs.declared.Request.{Request}
 use Rattle.model.specs.declared.Line.{Line}
 
@@ -72,3 +72,39 @@ play-refused S d report = go (refusal (playQuestions S d (length report)))
     go : (n : ℕ) → 0 < numberOf (playWith S d report n .answer) → Unchanged d report (playWith S d report n)
     go zero u = absurd (omega arith)
     go (suc k) u = record { state = refl; report = refl }
+
+-- ---- the opening
+
+perRound-zero : (t n : ℕ) → perRound (λ r. 0) t n ≡ replicate n 0
+perRound-zero t zero = refl
+perRound-zero t (suc n) = ap (λ (l : List ℕ). 0 ∷ l) (perRound-zero (suc t) n)
+
+-- "The record count and `now` become 0; the records' places are untouched", and the first T places of the sheet are zero
+pub record Empty (S : Setting) (d : State) (o : Outcome) : Type 0 where
+  pub now : o .state .now ≡ 0
+  pub count : o .state .count ≡ 0
+  pub places : o .state .places ≡ d .places
+  pub records : o .state .records ≡ d .records
+  pub opens : o .state .opens ≡ replicate (S .rounds) 0 ++ drop (S .rounds) (d .opens)
+  pub reserves : o .state .reserves ≡ replicate (S .rounds) 0 ++ drop (S .rounds) (d .reserves)
+  pub helds : o .state .helds ≡ replicate (S .rounds) 0 ++ drop (S .rounds) (d .helds)
+
+pub open-empty : (S : Setting) (d : State) → numberOf (openCall S d .answer) ≡ 0 → Empty S d (openCall S d)
+unfolding openCall
+open-empty S d = go (refusal (openQuestions S d))
+  where
+    zeros : (old : List ℕ) → workedOut (S .rounds) (λ t. 0) old ≡ replicate (S .rounds) 0 ++ drop (S .rounds) old
+    zeros old = ap (λ (l : List ℕ). l ++ drop (S .rounds) old) (perRound-zero 0 (S .rounds))
+
+    go : (n : ℕ) → numberOf (openWith S d n .answer) ≡ 0 → Empty S d (openWith S d n)
+    go zero u =
+        record {
+          now = refl;
+          count = refl;
+          places = refl;
+          records = refl;
+          opens = zeros (d .opens);
+          reserves = zeros (d .reserves);
+          helds = zeros (d .helds);
+        }
+    go (suc k) u = absurd (omega arith)
