@@ -65,11 +65,13 @@ module _ (S : Setting) where
           ap (λ (o : Bool). not (eqb (bitAnd (b .cabs) (c .cabs)) 0) && o) (sym (lt-ltb _ _ meet)) ∙ not-true _ e in
           absurd (disjoint (eqb (bitAnd (b .cabs) (c .cabs)) 0) refl no-meet (x .1) (y .1))
         where
-          disjoint : (v : Bool) → eqb (bitAnd (b .cabs) (c .cabs)) 0 ≡ v → not v && true ≡ false → bit k (b .cabs) ≡ 1 → bit k (c .cabs) ≡ 1 → ⊥
+          disjoint : (v : Bool) → eqb (bitAnd (b .cabs) (c .cabs)) 0 ≡ v → not v && true ≡ false → bit k (b .cabs) ≡ 1
+              → bit k (c .cabs) ≡ 1 → ⊥
           disjoint true i j = and-apart (b .cabs) (c .cabs) (eqb-true _ 0 i) k
           disjoint false i j = absurd (true≢false j)
 
-  none-shows : (b : Booking) (bs : List Booking) → all (λ c. not (clash b c)) bs ≡ true → (t k : ℕ) → bit k (cabsAt S t b) ≡ 1 → showing S k t bs ≡ 0
+  none-shows : (b : Booking) (bs : List Booking) → all (λ c. not (clash b c)) bs ≡ true → (t k : ℕ)
+      → bit k (cabsAt S t b) ≡ 1 → showing S k t bs ≡ 0
   none-shows b [] e t k u = refl
   none-shows b (c ∷ bs) e t k u =
       omega (arith, no-clash b c (left (not (clash b c)) (all (λ d. not (clash b d)) bs) e) t k u, none-shows b bs (right (not (clash b c)) e) t k u)

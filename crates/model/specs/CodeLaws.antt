@@ -15,7 +15,8 @@ use Rattle.retrieval.specs.Carry.{profile}
 use Rattle.retrieval.specs.Laws.{justInTime-helds}
 use Rattle.model.specs.Day.{Setting, State, recordOf, total, sending, ends, openAt, scheduleOf, heldAt, opened, reserved, held}
 use Rattle.model.specs.Fit.{Fits}
-use Rattle.model.specs.Calls.{perRound, Call, call, answers, reports, afterAll}
+use Rattle.laws.specs.Questions.{refusal}
+use Rattle.model.specs.Calls.{perRound, dayInRange, sound, playQuestions, playWith, playCall, Call, call, answers, reports, afterAll}
 use Rattle.model.specs.FitLaws.{place, length-sends}
 use Rattle.model.specs.PlacesLaws.{length-perRound}
 use Rattle.model.specs.declared.Booking.{Booking}
@@ -125,7 +126,8 @@ module _ (S : Setting) where
   profile-of b = profile (b .reserve) (sending S b)
 
   -- what a booking holds by its schedule is its profile, from its start on
-  pub held-profile : (t : ℕ) (b : Booking) → heldAt S t b (scheduleOf S b) ≡ cond (openAt S t b) (getD (profile-of b) (t - b .start) 0) 0
+  pub held-profile : (t : ℕ) (b : Booking)
+      → heldAt S t b (scheduleOf S b) ≡ cond (openAt S t b) (getD (profile-of b) (t - b .start) 0) 0
   held-profile t b = rw (justInTime-helds (b .reserve) 0 (sending S b))
 
   -- a share that is as long as the booking's rounds counts where it is open
@@ -169,7 +171,8 @@ module _ (S : Setting) where
       ∙ ap (λ (o : Bool). opened S t bs + cond o 1 0) (u ∙ sym v)
       ∙ sym (total-snoc (λ b. cond (openAt S t b) 1 0) bs (recordOf q s′)))
 
-  pub disk-rules-out : (bs : List Booking) (q : Request) (s s′ t : ℕ) → t < S .rounds → openAt S t (recordOf q s) ≡ true → openAt S t (recordOf q s′) ≡ true
+  pub disk-rules-out : (bs : List Booking) (q : Request) (s s′ t : ℕ) → t < S .rounds → openAt S t (recordOf q s) ≡ true
+      → openAt S t (recordOf q s′) ≡ true
       → S .disk < reserved S t (bs ++ (recordOf q s ∷ [])) + S .loss (opened S t (bs ++ (recordOf q s ∷ [])))
       → Fits S (bs ++ (recordOf q s′ ∷ [])) → ⊥
   disk-rules-out bs q s s′ t e u v w f = omega (arith, disk-same bs q s s′ t u v, f .1 .disk t e)
@@ -192,6 +195,26 @@ module _ (S : Setting) where
           → total (λ b. share (b .start) (replicate (length (sending S b)) (v b)) t) cs ≡ total (λ b. cond (openAt S t b) (v b) 0) cs
       go t [] = refl
       go t (c ∷ cs) = cc (one t c, go t cs)
+
+  -- ---- play is lent no sheet: with any, it gives the same and leaves that sheet
+
+  abbrev pub withSheet : State → List ℕ → List ℕ → List ℕ → State
+  withSheet d opens reserves helds =
+      record { now = d .now; count = d .count; places = d .places; records = d .records; opens = opens; reserves = reserves; helds = helds }
+
+  pub play-sheet : (d : State) (opens reserves helds : List ℕ) (report : List Line)
+      → let o = playCall S d report in
+      playCall S (withSheet d opens reserves helds) report
+      ≡ record { answer = o .answer; report = o .report; state = withSheet (o .state) opens reserves helds }
+  unfolding playCall playQuestions dayInRange sound
+  play-sheet d opens reserves helds report = go (refusal (playQuestions S d (length report)))
+    where
+      go : (n : ℕ)
+          → let o = playWith S d report n in
+          playWith S (withSheet d opens reserves helds) report n
+          ≡ record { answer = o .answer; report = o .report; state = withSheet (o .state) opens reserves helds }
+      go zero = refl
+      go (suc k) = refl
 
   -- ---- a list of calls, one more at its end
 

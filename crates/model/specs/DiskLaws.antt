@@ -82,7 +82,8 @@ module _ (S : Setting) where
   latest-start f t (b ∷ bs) e =
       go (openAt S t b) refl (left (f (b .start)) (all (λ c. f (c .start)) bs) e) (latest-start f t bs (right (f (b .start)) e))
     where
-      later : f (b .start) ≡ true → (Idle t bs ⊎ (f (latest t bs) ≡ true)) → Dec (latest t bs ≤ b .start) → f (max (b .start) (latest t bs)) ≡ true
+      later : f (b .start) ≡ true → (Idle t bs ⊎ (f (latest t bs) ≡ true)) → Dec (latest t bs ≤ b .start)
+          → f (max (b .start) (latest t bs)) ≡ true
       later u i (yes k) = let x : max (b .start) (latest t bs) ≡ b .start = omega arith in rw x u
       later u (inl i) (no k) = absurd (omega (arith, i .start))
       later u (inr i) (no k) = let x : max (b .start) (latest t bs) ≡ latest t bs = omega arith in rw x i
@@ -118,7 +119,8 @@ module _ (S : Setting) where
             le-leb (reserved S t bs + S .loss (opened S t bs)) (S .disk) (omega (arith, h, o, r, l))
 
     -- the limit in every round of the day, exactly
-    pub disk-starts : (bs : List Booking) → length bs ≤ maxBookings → below (S .rounds) (diskAt bs) ≡ all (λ b. diskBefore bs (b .start)) bs
+    pub disk-starts : (bs : List Booking) → length bs ≤ maxBookings
+        → below (S .rounds) (diskAt bs) ≡ all (λ b. diskBefore bs (b .start)) bs
     disk-starts bs few =
         same-test (below (S .rounds) (diskAt bs)) (all (λ b. diskBefore bs (b .start)) bs) (λ e. each e bs)
         (λ e. below-all (S .rounds) (diskAt bs) (starts-round bs few e))

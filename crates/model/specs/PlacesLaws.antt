@@ -68,7 +68,8 @@ places-freed c m lent u =
 
 -- ---- two states are the same by their parts
 
-pub same-state : {a b c d e f : ℕ} {rs rs′ : List Booking} {o o′ v v′ k k′ : List ℕ} → a ≡ b → c ≡ d → e ≡ f → rs ≡ rs′ → o ≡ o′ → v ≡ v′ → k ≡ k′
+pub same-state : {a b c d e f : ℕ} {rs rs′ : List Booking} {o o′ v v′ k k′ : List ℕ} → a ≡ b → c ≡ d → e ≡ f → rs ≡ rs′
+    → o ≡ o′ → v ≡ v′ → k ≡ k′
     → _≡_ {A = State} (record { now = a; count = c; places = e; records = rs; opens = o; reserves = v; helds = k })
     (record { now = b; count = d; places = f; records = rs′; opens = o′; reserves = v′; helds = k′ })
 same-state p q n r s t u = λ i. record { now = p i; count = q i; places = n i; records = r i; opens = s i; reserves = t i; helds = u i }

@@ -99,7 +99,8 @@ module _ (S : Setting) (t : ℕ) where
       go true i = omega arith
       go false i = omega arith
 
-  pub cabs-count : (c : ℕ) (bs : List Booking) → apart S t c bs ≡ true → ones (cabsJoined S t c bs) ≡ ones c + total (λ b. ones (cabsAt S t b)) bs
+  pub cabs-count : (c : ℕ) (bs : List Booking) → apart S t c bs ≡ true
+      → ones (cabsJoined S t c bs) ≡ ones c + total (λ b. ones (cabsAt S t b)) bs
   cabs-count c [] e = omega arith
   cabs-count c (b ∷ bs) e =
       let d = cabsAt S t b in

@@ -30,7 +30,8 @@ module _ (S : Setting) where
       let p = place S t b o .1 in
       omega (arith, s .paced (t - b .start) (omega (arith, s .rounds)))
 
-  line-held : (t : ℕ) (b : Booking) → openAt S t b ≡ true → lineOf S t b .held ≡ getD (helds 0 (sending S b) (scheduleOf S b)) (t - b .start) 0
+  line-held : (t : ℕ) (b : Booking) → openAt S t b ≡ true
+      → lineOf S t b .held ≡ getD (helds 0 (sending S b) (scheduleOf S b)) (t - b .start) 0
   line-held t b o =
       sym (helds-at 0 (sending S b) (scheduleOf S b) (t - b .start) (length-justInTime (b .reserve) 0 (sending S b)) (place S t b o .1))
 
@@ -69,27 +70,27 @@ module _ (S : Setting) (lent : State) (fits : (bs : List Booking) → Dec (Fits 
   empty-within = record { disk = omega (arith, accepted .rising .none); memory = omega arith }
 
   play-within : (s : PlainDay) (n : ℕ) → Sound S (s .standing) → (n ≡ 0 → s .round < S .rounds)
-      → Within S (plainPlay S ((lent .places)) fits s n .lines)
+      → Within S (plainPlay S (lent .places) fits s n .lines)
   play-within s zero g f = lines-within S (s .standing) (s .round) g (f refl)
   play-within s (suc k) g f = empty-within
 
-  book-lines : (s : PlainDay) (q : Request) (n : ℕ) (o : Found) → plainBook S ((lent .places)) fits s q n o .lines ≡ []
+  book-lines : (s : PlainDay) (q : Request) (n : ℕ) (o : Found) → plainBook S (lent .places) fits s q n o .lines ≡ []
   book-lines s q zero nowhere = refl
   book-lines s q zero (at x) = refl
   book-lines s q (suc k) o = refl
 
-  drop-lines : (s : PlainDay) (name n : ℕ) → plainDrop S ((lent .places)) fits s name n .lines ≡ []
+  drop-lines : (s : PlainDay) (name n : ℕ) → plainDrop S (lent .places) fits s name n .lines ≡ []
   drop-lines s name zero = refl
   drop-lines s name (suc k) = refl
 
   call-within : (s : PlainDay) (m : ℕ) (c : Call) → Good S lent fits accepted s m
-      → Within S (plainCall S ((lent .places)) fits s (argumentsOf c) .lines)
+      → Within S (plainCall S (lent .places) fits s (argumentsOf c) .lines)
   call-within s m (booking q) g = rw (book-lines s q _ _) empty-within
   call-within s m (dropping name) g = rw (drop-lines s name _) empty-within
   call-within s m (playing report) g = play-within s _ (g .sound) (in-time S (s .standing) (s .round) (length report))
 
   pub within-all : (cs : List Call) (s : PlainDay) (m : ℕ) → Good S lent fits accepted s m
-      → EachWithin S (plainReports S ((lent .places)) fits s (map argumentsOf cs))
+      → EachWithin S (plainReports S (lent .places) fits s (map argumentsOf cs))
   within-all [] s m g = tt
   within-all (c ∷ cs) s m g =
       (call-within s m c g, within-all cs _ _ (step S lent fits accepted s m g c .good))

@@ -22,16 +22,16 @@ use Rattle.model.specs.declared.Answer.the-variants.{Opened}
 module _ (S : Setting) (lent : State) (fits : (bs : List Booking) → Dec (Fits S bs)) (accepted : Accepted S lent) where
   -- ---- a list of calls
 
-  ever-least : (s : PlainDay) (cs : List Arguments) → length (s .standing) ≤ everTaken S ((lent .places)) fits s cs
+  ever-least : (s : PlainDay) (cs : List Arguments) → length (s .standing) ≤ everTaken S (lent .places) fits s cs
   ever-least s [] = omega arith
   ever-least s (c ∷ cs) = omega arith
 
   pub record Runs (d : State) (s : PlainDay) (m : ℕ) (cs : List Call) : Type 0 where
-    pub answered : answers S d cs ≡ plainAnswers S ((lent .places)) fits s (map argumentsOf cs)
-    pub reported : reports S d cs ≡ allWritten (plainReports S ((lent .places)) fits s (map argumentsOf cs)) cs
+    pub answered : answers S d cs ≡ plainAnswers S (lent .places) fits s (map argumentsOf cs)
+    pub reported : reports S d cs ≡ allWritten (plainReports S (lent .places) fits s (map argumentsOf cs)) cs
     pub ended : afterAll S d cs
-        ≡ expected S lent (plainAfter S ((lent .places)) fits s (map argumentsOf cs)) (max m (everTaken S ((lent .places)) fits s (map argumentsOf cs)))
-    pub good : Good S lent fits accepted (plainAfter S ((lent .places)) fits s (map argumentsOf cs)) (max m (everTaken S ((lent .places)) fits s (map argumentsOf cs)))
+        ≡ expected S lent (plainAfter S (lent .places) fits s (map argumentsOf cs)) (max m (everTaken S (lent .places) fits s (map argumentsOf cs)))
+    pub good : Good S lent fits accepted (plainAfter S (lent .places) fits s (map argumentsOf cs)) (max m (everTaken S (lent .places) fits s (map argumentsOf cs)))
 
   pub runs : (cs : List Call) (s : PlainDay) (m : ℕ) → Good S lent fits accepted s m → Runs (expected S lent s m) s m cs
   runs [] s m g =
@@ -39,15 +39,15 @@ module _ (S : Setting) (lent : State) (fits : (bs : List Booking) → Dec (Fits 
       record { answered = refl; reported = refl; ended = ap (expected S lent s) x; good = rw (← x) g }
   runs (c ∷ cs) s m g =
       let v = step S lent fits accepted s m g c in
-      let s′ = plainCall S ((lent .places)) fits s (argumentsOf c) .after in
+      let s′ = plainCall S (lent .places) fits s (argumentsOf c) .after in
       let m′ = max m (length (s′ .standing)) in
       let i : Runs (call S (expected S lent s m) c .state) s′ m′ cs = rw (v .state) (runs cs s′ m′ (v .good)) in
-      let E = everTaken S ((lent .places)) fits s′ (map argumentsOf cs) in
+      let E = everTaken S (lent .places) fits s′ (map argumentsOf cs) in
       let x : max m′ E ≡ max m (max (length (s .standing)) E) = omega (arith, g .most, ever-least s′ (map argumentsOf cs)) in
       record {
         answered = cc (v .answer, i .answered);
         reported = cc (v .report, i .reported);
-        ended = i .ended ∙ ap (expected S lent (plainAfter S ((lent .places)) fits s′ (map argumentsOf cs))) x;
+        ended = i .ended ∙ ap (expected S lent (plainAfter S (lent .places) fits s′ (map argumentsOf cs))) x;
         good = rw x at (i .good);
       }
 
@@ -94,6 +94,7 @@ opened-accepted S lent rising room e =
     record { rising = rising; rounds = a14 .0; limits = a15 .0; room = room }
 
 -- it leaves what the plain day expects at first
-pub opened-expected : (S : Setting) (lent : State) → openCall S lent .answer ≡ Opened → openCall S lent .state ≡ expected S lent atFirst 0
+pub opened-expected : (S : Setting) (lent : State) → openCall S lent .answer ≡ Opened
+    → openCall S lent .state ≡ expected S lent atFirst 0
 unfolding openCall
 opened-expected S lent e = ap (λ (n : ℕ). openWith S lent n .state) (open-held S lent e)

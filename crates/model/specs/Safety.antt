@@ -83,13 +83,13 @@ module _ (S : Setting) (lent : State) (fits : (bs : List Booking) → Dec (Fits 
     future : e .after .round ≤ x
 
   joined : (s : PlainDay) (q : Request) (x n : ℕ)
-      → refusal (fileQuestion S ∷ bookOwn S (s .standing) (length (s .standing)) ((lent .places)) (s .round) q) ≡ n
+      → refusal (fileQuestion S ∷ bookOwn S (s .standing) (length (s .standing)) (lent .places) (s .round) q) ≡ n
       → (o : Found) → Finds (λ y. does (fits (s .standing ++ (recordOf q y ∷ [])))) (q .first) (suc (q .last) - q .first) o
-      → plainBook S ((lent .places)) fits s q n o .answer ≡ Booked x
-      → Joined q x (plainBook S ((lent .places)) fits s q n o)
+      → plainBook S (lent .places) fits s q n o .answer ≡ Booked x
+      → Joined q x (plainBook S (lent .places) fits s q n o)
   joined s q x zero e (at y) w a =
       let z : y ≡ x = cc in
-      let k = asked S (s .standing) (length (s .standing)) ((lent .places)) (s .round) q e in
+      let k = asked S (s .standing) (length (s .standing)) (lent .places) (s .round) q e in
       record { stands = rw z (stands-last (recordOf q x) (s .standing)); future = omega (arith, k .today, w .from) }
   joined s q x zero e nowhere w a = let z : _≡_ {A = ℕ} 0 1 = cc in absurd (omega arith)
   joined s q x (suc k) e o w a = let z : _≡_ {A = ℕ} 0 1 = cc in absurd (omega arith)
@@ -103,36 +103,36 @@ module _ (S : Setting) (lent : State) (fits : (bs : List Booking) → Dec (Fits 
 
   -- what is answered says how many lines are written
   book-wrote : (s : PlainDay) (q : Request) (old : List Line) (n : ℕ) (o : Found)
-      → let e = plainBook S ((lent .places)) fits s q n o in linesIn (e .answer) (written (e .lines) old) ≡ e .lines
+      → let e = plainBook S (lent .places) fits s q n o in linesIn (e .answer) (written (e .lines) old) ≡ e .lines
   book-wrote s q old zero nowhere = refl
   book-wrote s q old zero (at x) = refl
   book-wrote s q old (suc k) o = refl
 
   drop-wrote : (s : PlainDay) (name : ℕ) (old : List Line) (n : ℕ)
-      → let e = plainDrop S ((lent .places)) fits s name n in linesIn (e .answer) (written (e .lines) old) ≡ e .lines
+      → let e = plainDrop S (lent .places) fits s name n in linesIn (e .answer) (written (e .lines) old) ≡ e .lines
   drop-wrote s name old zero = refl
   drop-wrote s name old (suc k) = refl
 
   play-wrote : (s : PlainDay) (old : List Line) (n : ℕ)
-      → let e = plainPlay S ((lent .places)) fits s n in linesIn (e .answer) (written (e .lines) old) ≡ e .lines
+      → let e = plainPlay S (lent .places) fits s n in linesIn (e .answer) (written (e .lines) old) ≡ e .lines
   play-wrote s old zero = take-append-seam _ _
   play-wrote s old (suc k) = refl
 
   wrote : (s : PlainDay) (c : Call) (old : List Line)
-      → let e = plainCall S ((lent .places)) fits s (argumentsOf c) in linesIn (e .answer) (written (e .lines) old) ≡ e .lines
-  wrote s (booking q) old = book-wrote s q old (plainNumber S ((lent .places)) fits s (argumentsOf (booking q))) (plainStart S ((lent .places)) fits s q)
-  wrote s (dropping name) old = drop-wrote s name old (plainNumber S ((lent .places)) fits s (argumentsOf (dropping name)))
-  wrote s (playing report) old = play-wrote s old (plainNumber S ((lent .places)) fits s (argumentsOf (playing report)))
+      → let e = plainCall S (lent .places) fits s (argumentsOf c) in linesIn (e .answer) (written (e .lines) old) ≡ e .lines
+  wrote s (booking q) old = book-wrote s q old (plainNumber S (lent .places) fits s (argumentsOf (booking q))) (plainStart S (lent .places) fits s q)
+  wrote s (dropping name) old = drop-wrote s name old (plainNumber S (lent .places) fits s (argumentsOf (dropping name)))
+  wrote s (playing report) old = play-wrote s old (plainNumber S (lent .places) fits s (argumentsOf (playing report)))
 
 module _ (S : Setting) (lent : State) (fits : (bs : List Booking) → Dec (Fits S bs)) (accepted : Accepted S lent) where
   same-lines : (s : PlainDay) (m : ℕ) → Good S lent fits accepted s m → (c : Call)
-      → callLines S (expected S lent s m) c ≡ plainCall S ((lent .places)) fits s (argumentsOf c) .lines
+      → callLines S (expected S lent s m) c ≡ plainCall S (lent .places) fits s (argumentsOf c) .lines
   same-lines s m g c =
       let v = step S lent fits accepted s m g c in
       ap₂ linesIn (v .answer) (v .report) ∙ wrote S lent fits s c (lentReport c)
 
   all-lines : (cs : List Call) (s : PlainDay) (m : ℕ) → Good S lent fits accepted s m
-      → allLines S (expected S lent s m) cs ≡ plainReports S ((lent .places)) fits s (map argumentsOf cs)
+      → allLines S (expected S lent s m) cs ≡ plainReports S (lent .places) fits s (map argumentsOf cs)
   all-lines [] s m g = refl
   all-lines (c ∷ cs) s m g =
       let v = step S lent fits accepted s m g c in
@@ -140,14 +140,14 @@ module _ (S : Setting) (lent : State) (fits : (bs : List Booking) → Dec (Fits 
       cc (same-lines s m g c, i)
 
   lines-for : (n : ℕ) (cs : List Call) (s : PlainDay) (m : ℕ) → Good S lent fits accepted s m
-      → linesFor S n (expected S lent s m) cs ≡ linesSince S ((lent .places)) fits n s (map argumentsOf cs)
+      → linesFor S n (expected S lent s m) cs ≡ linesSince S (lent .places) fits n s (map argumentsOf cs)
   lines-for n [] s m g = refl
   lines-for n (c ∷ cs) s m g =
       let v = step S lent fits accepted s m g c in
-      let s′ = plainCall S ((lent .places)) fits s (argumentsOf c) .after in
+      let s′ = plainCall S (lent .places) fits s (argumentsOf c) .after in
       let st : standing (call S (expected S lent s m) c .state) ≡ s′ .standing =
       ap standing (v .state) ∙ stands-is S lent fits accepted s′ _ in
-      let i : linesFor S n (call S (expected S lent s m) c .state) cs ≡ linesSince S ((lent .places)) fits n s′ (map argumentsOf cs) =
+      let i : linesFor S n (call S (expected S lent s m) c .state) cs ≡ linesSince S (lent .places) fits n s′ (map argumentsOf cs) =
       ap (λ (d : State). linesFor S n d cs) (v .state) ∙ lines-for n cs s′ _ (v .good) in
       ap₂ (λ (a b : List Line). a ++ b) (ap (ofName n) (same-lines s m g c))
       (ap₂ (λ (t : Bool) (a : List Line). cond t a []) (ap (hasName n) st) i)

@@ -89,7 +89,8 @@ no-or : (a b : Bool) → a ≡ false → b ≡ false → a || b ≡ false
 no-or true b e u = e
 no-or false b e u = u
 
-name-snoc : (n : ℕ) (bs : List Booking) (b : Booking) → hasName n bs ≡ false → eqb (b .name) n ≡ false → hasName n (bs ++ (b ∷ [])) ≡ false
+name-snoc : (n : ℕ) (bs : List Booking) (b : Booking) → hasName n bs ≡ false → eqb (b .name) n ≡ false
+    → hasName n (bs ++ (b ∷ [])) ≡ false
 name-snoc n [] b e u = no-or _ _ u refl
 name-snoc n (x ∷ bs) b e u = let w = or-no (eqb (x .name) n) _ e in no-or _ _ (w .0) (name-snoc n bs b (w .1) u)
 
@@ -104,7 +105,8 @@ name-without n k (b ∷ bs) e =
     go true u v i = v
     go false u v i = no-or _ _ u i
 
-pub differ-snoc : (bs : List Booking) (b : Booking) → namesDiffer bs ≡ true → hasName (b .name) bs ≡ false → namesDiffer (bs ++ (b ∷ [])) ≡ true
+pub differ-snoc : (bs : List Booking) (b : Booking) → namesDiffer bs ≡ true → hasName (b .name) bs ≡ false
+    → namesDiffer (bs ++ (b ∷ [])) ≡ true
 differ-snoc [] b e u = refl
 differ-snoc (x ∷ bs) b e u =
     let w = or-no (eqb (x .name) (b .name)) (hasName (b .name) bs) u in

@@ -106,7 +106,7 @@ module _ (S : Setting) (lent : State) (fits : (bs : List Booking) → Dec (Fits 
       }
 
   book-asks : (d : State) (s : PlainDay) (q : Request) → Seen d s → refusal (bookQuestions S d q)
-      ≡ refusal (fileQuestion S ∷ bookOwn S (s .standing) (length (s .standing)) ((lent .places)) (s .round) q)
+      ≡ refusal (fileQuestion S ∷ bookOwn S (s .standing) (length (s .standing)) (lent .places) (s .round) q)
   unfolding bookQuestions
   book-asks d s q v = rw (v .stands, v .clock, accepted .limits, v .sheet, v .sound, v .counted, v .placed, v .timed)
 
@@ -130,7 +130,7 @@ module _ (S : Setting) (lent : State) (fits : (bs : List Booking) → Dec (Fits 
 
   -- a refusal changes nothing
   kept : (s : PlainDay) (m k : ℕ) (old : List Line) (d : State) → Good s m → d ≡ expected S lent s m
-      → Matches (record { answer = Refused k; report = old; state = d }) (plainRefused S ((lent .places)) fits s k) old m
+      → Matches (record { answer = Refused k; report = old; state = d }) (plainRefused S (lent .places) fits s k) old m
   kept s m k old d g e =
       let x : max m (length (s .standing)) ≡ m = omega (arith, g .most) in
       record {
@@ -175,14 +175,14 @@ module _ (S : Setting) (lent : State) (fits : (bs : List Booking) → Dec (Fits 
       ∙ ap (λ (c : ℕ). (bs ++ (b ∷ [])) ++ otherPlaces c (max m c) (lent .records)) (sym (length-snoc bs b))
 
   book-with : (s : PlainDay) (m : ℕ) (q : Request) → Good s m → (n : ℕ)
-      → refusal (fileQuestion S ∷ bookOwn S (s .standing) (length (s .standing)) ((lent .places)) (s .round) q) ≡ n
+      → refusal (fileQuestion S ∷ bookOwn S (s .standing) (length (s .standing)) (lent .places) (s .round) q) ≡ n
       → (o : Found) → Finds (λ x. does (fits (s .standing ++ (recordOf q x ∷ [])))) (q .first) (suc (q .last) - q .first) o
-      → Matches (bookWith S (expected S lent s m) q n o) (plainBook S ((lent .places)) fits s q n o) [] m
+      → Matches (bookWith S (expected S lent s m) q n o) (plainBook S (lent .places) fits s q n o) [] m
   book-with s m q g zero e (at x) w =
       let bs = s .standing in
       let r = recordOf q x in
       let d = expected S lent s m in
-      let a = asked S bs (length bs) ((lent .places)) (s .round) q e in
+      let a = asked S bs (length bs) (lent .places) (s .round) q e in
       let k = length-snoc bs r in
       let last : x ≤ q .last = omega (arith, w .upto, a .window) in
       record {
@@ -211,24 +211,24 @@ module _ (S : Setting) (lent : State) (fits : (bs : List Booking) → Dec (Fits 
   book-with s m q g (suc k) e o w = kept s m (suc k) [] (expected S lent s m) g refl
 
   book-step : (s : PlainDay) (m : ℕ) (q : Request) → Good s m
-      → Matches (bookCall S (expected S lent s m) q) (plainCall S ((lent .places)) fits s (argumentsOf (booking q))) [] m
+      → Matches (bookCall S (expected S lent s m) q) (plainCall S (lent .places) fits s (argumentsOf (booking q))) [] m
   unfolding bookCall startOf
   book-step s m q g =
       let d = expected S lent s m in
       let bs = s .standing in
       let f : ℕ → Bool = λ x. does (fits (bs ++ (recordOf q x ∷ []))) in
-      let n = refusal (fileQuestion S ∷ bookOwn S bs (length bs) ((lent .places)) (s .round) q) in
+      let n = refusal (fileQuestion S ∷ bookOwn S bs (length bs) (lent .places) (s .round) q) in
       let o = firstOf f (q .first) (q .last) in
       let e : firstOf (λ x. fitTest S (standing d ++ (recordOf q x ∷ []))) (q .first) (q .last) ≡ o =
       search-same _ _
       (λ x. ap (λ (b : List Booking). fitTest S (b ++ (recordOf q x ∷ []))) (stands-is s m) ∙ fits-same (bs ++ (recordOf q x ∷ [])))
       (q .first) (suc (q .last) - q .first) in
-      subst (λ (w : Outcome). Matches w (plainBook S ((lent .places)) fits s q n o) [] m)
+      subst (λ (w : Outcome). Matches w (plainBook S (lent .places) fits s q n o) [] m)
       (sym (ap₂ (bookWith S d q) (book-asks d s q (seen s m g)) e))
       (book-with s m q g n refl o (search-finds f (q .first) (suc (q .last) - q .first)))
 
   drop-with : (s : PlainDay) (m name : ℕ) → Good s m → (n : ℕ) → refusal (fileQuestion S ∷ dropOwn S (s .standing) name) ≡ n
-      → Matches (dropWith S (expected S lent s m) name n) (plainDrop S ((lent .places)) fits s name n) [] m
+      → Matches (dropWith S (expected S lent s m) name n) (plainDrop S (lent .places) fits s name n) [] m
   drop-with s m name g zero e =
       let bs = s .standing in
       let rest = without name bs in
@@ -261,17 +261,17 @@ module _ (S : Setting) (lent : State) (fits : (bs : List Booking) → Dec (Fits 
   drop-with s m name g (suc k) e = kept s m (suc k) [] (expected S lent s m) g refl
 
   drop-step : (s : PlainDay) (m name : ℕ) → Good s m
-      → Matches (dropCall S (expected S lent s m) name) (plainCall S ((lent .places)) fits s (argumentsOf (dropping name))) [] m
+      → Matches (dropCall S (expected S lent s m) name) (plainCall S (lent .places) fits s (argumentsOf (dropping name))) [] m
   unfolding dropCall
   drop-step s m name g =
       let d = expected S lent s m in
       let n = refusal (fileQuestion S ∷ dropOwn S (s .standing) name) in
-      subst (λ (w : Outcome). Matches w (plainDrop S ((lent .places)) fits s name n) [] m)
+      subst (λ (w : Outcome). Matches w (plainDrop S (lent .places) fits s name n) [] m)
       (sym (ap (dropWith S d name) (drop-asks d s name (seen s m g)))) (drop-with s m name g n refl)
 
   play-with : (s : PlainDay) (m : ℕ) (report : List Line) → Good s m → (n : ℕ)
       → refusal (fileQuestion S ∷ playOwn S (s .standing) (s .round) (length report)) ≡ n
-      → Matches (playWith S (expected S lent s m) report n) (plainPlay S ((lent .places)) fits s n) report m
+      → Matches (playWith S (expected S lent s m) report n) (plainPlay S (lent .places) fits s n) report m
   play-with s m report g zero e =
       let bs = s .standing in
       let r = s .round in
@@ -292,16 +292,16 @@ module _ (S : Setting) (lent : State) (fits : (bs : List Booking) → Dec (Fits 
   play-with s m report g (suc k) e = kept s m (suc k) report (expected S lent s m) g refl
 
   play-step : (s : PlainDay) (m : ℕ) (report : List Line) → Good s m
-      → Matches (playCall S (expected S lent s m) report) (plainCall S ((lent .places)) fits s (argumentsOf (playing report))) report m
+      → Matches (playCall S (expected S lent s m) report) (plainCall S (lent .places) fits s (argumentsOf (playing report))) report m
   unfolding playCall
   play-step s m report g =
       let d = expected S lent s m in
       let n = refusal (fileQuestion S ∷ playOwn S (s .standing) (s .round) (length report)) in
-      subst (λ (w : Outcome). Matches w (plainPlay S ((lent .places)) fits s n) report m)
+      subst (λ (w : Outcome). Matches w (plainPlay S (lent .places) fits s n) report m)
       (sym (ap (playWith S d report) (play-asks d s (length report) (seen s m g)))) (play-with s m report g n refl)
 
   pub step : (s : PlainDay) (m : ℕ) → Good s m → (c : Call)
-      → Matches (call S (expected S lent s m) c) (plainCall S ((lent .places)) fits s (argumentsOf c)) (lentReport c) m
+      → Matches (call S (expected S lent s m) c) (plainCall S (lent .places) fits s (argumentsOf c)) (lentReport c) m
   step s m g (booking q) = book-step s m q g
   step s m g (dropping name) = drop-step s m name g
   step s m g (playing report) = play-step s m report g

@@ -47,7 +47,8 @@ book-refused S d q = go (refusal (bookQuestions S d q))
     go (suc k) u = record { state = refl; report = refl }
 
 -- by 22
-pub book-nowhere : (S : Setting) (d : State) (q : Request) → refusal (bookQuestions S d q) ≡ 0 → numberOf (bookCall S d q .answer) ≡ noStart
+pub book-nowhere : (S : Setting) (d : State) (q : Request) → refusal (bookQuestions S d q) ≡ 0
+    → numberOf (bookCall S d q .answer) ≡ noStart
     → SheetOnly S d (bookCall S d q)
 unfolding bookCall
 book-nowhere S d q e = rw e (go (startOf S d q))

@@ -86,7 +86,8 @@ module _ (S : Setting) (t : ℕ) where
   none-named n [] e = refl
   none-named n (x ∷ bs) e = go (eqb (x .name) n) refl e (openAt S t x) (none-named n bs)
     where
-      go : (v : Bool) → eqb (x .name) n ≡ v → v || hasName n bs ≡ false → (o : Bool) → (hasName n bs ≡ false → ofName n (linesOf S t bs) ≡ [])
+      go : (v : Bool) → eqb (x .name) n ≡ v → v || hasName n bs ≡ false → (o : Bool)
+          → (hasName n bs ≡ false → ofName n (linesOf S t bs) ≡ [])
           → ofName n (cond o (lineOf S t x ∷ linesOf S t bs) (linesOf S t bs)) ≡ []
       go true u w o i = absurd (true≢false w)
       go false u w true i = rw u (i w)
@@ -212,44 +213,45 @@ module _ (S : Setting) (lent : State) (fits : (bs : List Booking) → Dec (Fits 
     names : hasName (b .name) (e .after .standing) ≡ true → Stands b (e .after .standing)
 
   book-silent : (s : PlainDay) (q : Request) → Stands b (s .standing) → (n : ℕ) (o : Found)
-      → Silent s (plainBook S ((lent .places)) fits s q n o)
+      → Silent s (plainBook S (lent .places) fits s q n o)
   book-silent s q v zero (at x) = record { lines = refl; round = refl; names = λ u. stands-snoc b (recordOf q x) (s .standing) v }
   book-silent s q v zero nowhere = record { lines = refl; round = refl; names = λ u. v }
   book-silent s q v (suc k) o = record { lines = refl; round = refl; names = λ u. v }
 
   drop-silent : (s : PlainDay) (name : ℕ) → Stands b (s .standing) → (n : ℕ)
-      → Silent s (plainDrop S ((lent .places)) fits s name n)
+      → Silent s (plainDrop S (lent .places) fits s name n)
   drop-silent s name v zero = record { lines = refl; round = refl; names = go (eqb (b .name) name) refl }
     where
-      go : (t : Bool) → eqb (b .name) name ≡ t → hasName (b .name) (others name (s .standing)) ≡ true → Stands b (others name (s .standing))
+      go : (t : Bool) → eqb (b .name) name ≡ t → hasName (b .name) (others name (s .standing)) ≡ true
+          → Stands b (others name (s .standing))
       go true e u = absurd (true≢false (sym u ∙ ap (λ (k : ℕ). hasName k (others name (s .standing))) (eqb-true (b .name) name e) ∙ others-none name (s .standing)))
       go false e u = stands-others b name (s .standing) e v
   drop-silent s name v (suc k) = record { lines = refl; round = refl; names = λ u. v }
 
   play-fed : (s : PlainDay) → Sound S (s .standing) → Stands b (s .standing) → (n : ℕ) (cs : List Arguments)
-      → (Stands b (plainPlay S ((lent .places)) fits s n .after .standing)
-      → Fed S b ex (plainPlay S ((lent .places)) fits s n .after .round)
-      (linesSince S ((lent .places)) fits (b .name) (plainPlay S ((lent .places)) fits s n .after) cs))
+      → (Stands b (plainPlay S (lent .places) fits s n .after .standing)
+      → Fed S b ex (plainPlay S (lent .places) fits s n .after .round)
+      (linesSince S (lent .places) fits (b .name) (plainPlay S (lent .places) fits s n .after) cs))
       → Fed S b ex (s .round)
-      (ofName (b .name) (plainPlay S ((lent .places)) fits s n .lines)
-      ++ cond (hasName (b .name) (plainPlay S ((lent .places)) fits s n .after .standing))
-      (linesSince S ((lent .places)) fits (b .name) (plainPlay S ((lent .places)) fits s n .after) cs) [])
+      (ofName (b .name) (plainPlay S (lent .places) fits s n .lines)
+      ++ cond (hasName (b .name) (plainPlay S (lent .places) fits s n .after .standing))
+      (linesSince S (lent .places) fits (b .name) (plainPlay S (lent .places) fits s n .after) cs) [])
   play-fed s g v zero cs f = loud S b ex (s .round) (s .standing) _ (g .names) v (f v)
-  play-fed s g v (suc k) cs f = quiet S b ex (s .round) (plainPlay S ((lent .places)) fits s (suc k)) _ refl refl (λ u. f v)
+  play-fed s g v (suc k) cs f = quiet S b ex (s .round) (plainPlay S (lent .places) fits s (suc k)) _ refl refl (λ u. f v)
 
   pub fed : (cs : List Call) (s : PlainDay) (m : ℕ) → Good S lent fits accepted s m → Stands b (s .standing)
-      → Fed S b ex (s .round) (linesSince S ((lent .places)) fits (b .name) s (map argumentsOf cs))
+      → Fed S b ex (s .round) (linesSince S (lent .places) fits (b .name) s (map argumentsOf cs))
   fed [] s m g v = fed-none S b ex (s .round)
   fed (booking q ∷ cs) s m g v =
-      let e = plainCall S ((lent .places)) fits s (argumentsOf (booking q)) in
-      let i = book-silent s q v (plainNumber S ((lent .places)) fits s (argumentsOf (booking q))) (plainStart S ((lent .places)) fits s q) in
+      let e = plainCall S (lent .places) fits s (argumentsOf (booking q)) in
+      let i = book-silent s q v (plainNumber S (lent .places) fits s (argumentsOf (booking q))) (plainStart S (lent .places) fits s q) in
       quiet S b ex (s .round) e _ (i .lines) (i .round)
       (λ u. fed cs (e .after) _ (step S lent fits accepted s m g (booking q) .good) (i .names u))
   fed (dropping name ∷ cs) s m g v =
-      let e = plainCall S ((lent .places)) fits s (argumentsOf (dropping name)) in
-      let i = drop-silent s name v (plainNumber S ((lent .places)) fits s (argumentsOf (dropping name))) in
+      let e = plainCall S (lent .places) fits s (argumentsOf (dropping name)) in
+      let i = drop-silent s name v (plainNumber S (lent .places) fits s (argumentsOf (dropping name))) in
       quiet S b ex (s .round) e _ (i .lines) (i .round)
       (λ u. fed cs (e .after) _ (step S lent fits accepted s m g (dropping name) .good) (i .names u))
   fed (playing report ∷ cs) s m g v =
-      let e = plainCall S ((lent .places)) fits s (argumentsOf (playing report)) in
-      play-fed s (g .sound) v (plainNumber S ((lent .places)) fits s (argumentsOf (playing report))) (map argumentsOf cs) (λ u. fed cs (e .after) _ (step S lent fits accepted s m g (playing report) .good) u)
+      let e = plainCall S (lent .places) fits s (argumentsOf (playing report)) in
+      play-fed s (g .sound) v (plainNumber S (lent .places) fits s (argumentsOf (playing report))) (map argumentsOf cs) (λ u. fed cs (e .after) _ (step S lent fits accepted s m g (playing report) .good) u)
