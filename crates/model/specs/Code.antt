@@ -1,5 +1,6 @@
 -- The values that the code passes, as the definitions take them: a contract says that answer, day, records, sheet and
 -- report afterwards are those of the call on `stateOf ..` in `settingOf ..`.
+use mathlib.Core.Path.{_≡_, refl}
 use mathlib.Core.List.{List}
 use Prim.Native.Nat.{ℕ, zero, suc}
 use Rattle.laws.specs.Questions.{refusal}
@@ -30,3 +31,8 @@ openedDay S d old (suc k) = old
 
 abbrev pub dayOpened : Setting → State → Day → Day
 dayOpened S d old = openedDay S d old (refusal (openQuestions S d))
+
+-- a day that is passed in and read back is the same
+pub day-same : (verdict : ℕ) (films : List Film) (loss : ℕ → ℕ) (day : Day) (records : List Booking) (places : ℕ) (opens reserves helds : List ℕ)
+    → dayOf (settingOf verdict films loss day) (stateOf day records places opens reserves helds) ≡ day
+day-same verdict films loss day records places opens reserves helds = refl
