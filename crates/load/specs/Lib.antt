@@ -1,0 +1,2 @@
+-- The load of a day's rounds, over streams: bookings with their film's place in the file.
+pub mod Stream

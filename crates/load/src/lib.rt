@@ -1,0 +1,2 @@
+// The load of a day's rounds, and whether a list of bookings is sound.
+pub mod stream;
