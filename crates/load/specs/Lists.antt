@@ -1,0 +1,51 @@
+-- Laws of tests and of lists that the loops need. Assumes nothing.
+use mathlib.Core.Path.{_≡_, refl, sym, ap, _∙_}
+use mathlib.Core.Bool.{Bool, true, false, not, _&&_, _||_}
+use mathlib.Core.List.{List, [], _∷_, _++_}
+use Prim.Native.Nat.{ℕ, zero, suc, _+_, _≤_, _<_}
+use native.Mathlib.Omega.{arith}
+use native.Mathlib.Numerals.{add-one}
+use lib.Dec.{leb, ltb, eqb}
+use lib.ListN.{length, getD, take, drop}
+use lib.Seq.{slice, slice-cons, slice-empty}
+use borrow.Author.Tests.{lt-ltb, le-ltb, le-leb, lt-leb, ltb-true, ltb-false, leb-true, leb-false}
+use Rattle.laws.specs.Tests.{all}
+
+-- ---- tests that say the same
+
+pub ltb-same : (a b c d : ℕ) → (a < b → c < d) → (c < d → a < b) → ltb a b ≡ ltb c d
+ltb-same a b c d f g = go (ltb c d) refl
+  where
+    go : (v : Bool) → ltb c d ≡ v → ltb a b ≡ ltb c d
+    go true e = lt-ltb a b (g (ltb-true c d e)) ∙ sym e
+    go false e = go′ (ltb a b) refl
+      where
+        go′ : (v : Bool) → ltb a b ≡ v → ltb a b ≡ ltb c d
+        go′ true u = absurd (omega (arith, f (ltb-true a b u), ltb-false c d e))
+        go′ false u = u ∙ sym e
+
+pub leb-same : (a b c d : ℕ) → (a ≤ b → c ≤ d) → (c ≤ d → a ≤ b) → leb a b ≡ leb c d
+leb-same a b c d f g = go (leb c d) refl
+  where
+    go : (v : Bool) → leb c d ≡ v → leb a b ≡ leb c d
+    go true e = le-leb a b (g (leb-true c d e)) ∙ sym e
+    go false e = go′ (leb a b) refl
+      where
+        go′ : (v : Bool) → leb a b ≡ v → leb a b ≡ leb c d
+        go′ true u = absurd (omega (arith, f (leb-true a b u), leb-false c d e))
+        go′ false u = u ∙ sym e
+
+-- ---- a test of every element from i to n
+
+module _ {A : Type 0} (f : A → Bool) (l : List A) (i n : ℕ) (d : A) (h : i < n) (k : n ≤ length l) where
+  -- one that fails
+  pub all-no : f (getD l i d) ≡ false → all f (slice i n l) ≡ false
+  all-no e = simp (slice-cons i n l d h k, e)
+
+  -- one that passes: the rest decides
+  pub all-next : f (getD l i d) ≡ true → all f (slice i n l) ≡ all f (slice (i + 1) n l)
+  all-next e = simp (slice-cons i n l d h k, e, add-one)
+
+-- none is left
+pub all-end : {A : Type 0} (f : A → Bool) (l : List A) (i n : ℕ) → i ≡ n → all f (slice i n l) ≡ true
+all-end f l i n e = rw (e, slice-empty)
