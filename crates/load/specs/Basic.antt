@@ -27,11 +27,14 @@ pub record Bounded (x : Stream) : Type 0 where
   pub reserve : x .reserve ≤ maxReserve
   pub ends : endOf x ≤ maxDay
 
--- within the bounds and the day's T rounds, with its sizes in the file
-pub record Playable (f : List ℕ) (T : ℕ) (x : Stream) : Type 0 where
+-- within the bounds, with its sizes in the file
+pub record Playable (f : List ℕ) (x : Stream) : Type 0 where
   pub bounded : Bounded x
-  pub within : endOf x ≤ T
   pub stored : Stored f (x .at) (x .rounds)
+
+-- "s+p+n ≤ T"
+abbrev pub Within : ℕ → Stream → Type 0
+Within T x = endOf x ≤ T
 
 -- of each of the first n
 abbrev pub EachOf : (Stream → Type 0) → ℕ → List Stream → Type 0

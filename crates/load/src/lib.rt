@@ -4,3 +4,4 @@ pub mod disk;
 pub mod names;
 pub mod records;
 pub mod stream;
+pub mod memory;
