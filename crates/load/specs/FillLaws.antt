@@ -7,7 +7,7 @@ use native.Mathlib.Nat.{not-suc-le-zero, le-of-suc-le-suc, eq-or-lt-of-le}
 use native.Mathlib.Numerals.{add-one}
 use native.Mathlib.Omega.{arith}
 use mathlib.Core.Logic.{⊎-elim}
-use lib.ListN.{length, getD, set, take, drop, length-set, length-take}
+use lib.ListN.{length, getD, set, take, drop, replicate, length-set, length-take}
 use lib.Seq.{take-suc, getD-set-same, getD-set-other, getD-take}
 use lib.Dec.{leb, eqb}
 use borrow.Author.Count.{below-more}
@@ -201,3 +201,33 @@ pub passed-none : (f : List ℕ) (xs : List Stream) (n T M : ℕ) (carries : Lis
     → ((k : ℕ) → getD carries k 0 ≡ 0) → EachOf (Within T) n xs → Passed f xs n T M carries T
 passed-none f xs n T M carries s z g =
     record { size = s; kept = refl; carried = λ i h. z i ∙ sym (carry-late f (getD xs i noStream) T (g i h)) }
+
+module _ (f : List ℕ) (xs : List Stream) (n T M : ℕ) (carries : List ℕ) (e : ℕ) (g : Passed f xs n T M carries e) where
+  module _ (window : List ℕ) (w : ℕ) (left : List ℕ) (h : w ≤ e) (k : e ≤ w + length window) (a : Filled f xs n window w e left) where
+    -- a round of the window passes the limit
+    pub passed-no : all (λ v. leb v M) (take (e - w) window) ≡ false
+        → memoryKept f M T (take n xs) && all (feasible f) (take n xs) ≡ false
+    passed-no z =
+        let no : memoryKept f M T (take n xs) ≡ false = g .kept ∙ kept-window f M xs n window w e left h k a ∙ rw z in
+        rw no
+
+    -- none does
+    pub passed-next : length left ≡ maxBookings → all (λ v. leb v M) (take (e - w) window) ≡ true → Passed f xs n T M left w
+    passed-next s z =
+        record { size = s; kept = g .kept ∙ kept-window f M xs n window w e left h k a ∙ rw z; carried = a .carried }
+
+  -- no window is left
+  pub passed-all : n ≤ maxBookings → n ≤ length xs → e ≡ 0
+      → all (λ c. eqb c 0) (take n carries) ≡ memoryKept f M T (take n xs) && all (feasible f) (take n xs)
+  passed-all few h z =
+      let kept : memoryKept f M T (take n xs) ≡ true =
+      g .kept ∙ ap (λ (t : ℕ). memoryKept f M t (take n xs)) z ∙ kept-none f M (take n xs) in
+      let carried : (i : ℕ) → i < n → getD carries i 0 ≡ carryFrom f 0 (getD xs i noStream) =
+      λ i u. g .carried i u ∙ ap (λ (t : ℕ). carryFrom f t (getD xs i noStream)) z in
+      rw kept (feasible-all f xs n carries h (omega (arith, g .size)) carried)
+
+-- every place of a list of zeros, and past its end
+pub zeros-at : (n k : ℕ) → _≡_ {A = ℕ} (getD (replicate n 0) k 0) 0
+zeros-at zero k = refl
+zeros-at (suc n) zero = refl
+zeros-at (suc n) (suc k) = zeros-at n k

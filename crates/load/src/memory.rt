@@ -111,7 +111,13 @@ fn none_left(carries: [u64; MAX_BOOKINGS], count: usize) -> bool
 }
 
 // Whether every round of the day keeps the memory limit and every stream has a schedule.
-pub fn held_within(file: &[u8], xs: [Stream; MAX_BOOKINGS], count: usize, day_rounds: usize, memory: u64) -> bool
+pub fn held_within(
+    file: &[u8],
+    xs: [Stream; MAX_BOOKINGS],
+    count: usize,
+    day_rounds: usize,
+    memory: u64,
+) -> bool
     requires { ⌜ (count ≤ maxBookings) × EachOf (Playable (now file)) count xs × EachOf (Within «day_rounds») count xs ⌝ }
     ensures { λ r. ⌜ r ≡ memoryKept (now (file .entry)) memory «day_rounds» (take count xs) && all (feasible (now (file .entry))) (take count xs) ⌝ }
 {

@@ -1,45 +1,56 @@
+-- `load::memory::none_left` meets its contract. The invariant: the answer is that of the places from i on. The measure is what is left
+-- of them. Assumes nothing.
+use mathlib.Core.Path.{_≡_, sym, _∙_}
+use Prim.Native.Nat.{ℕ, _-_, _≤_}
+use native.Mathlib.Omega.{arith}
+use borrow.Author.Needs.{needs}
+use borrow.Author.Tests.{eq-eqb, ne-eqb}
+use lib.ListN.{take}
+use lib.Seq.{slice}
+use lib.Dec.{eqb}
+use Rattle.laws.specs.Tests.{all}
+use Rattle.load.specs.Lists.{all-no, all-next, all-end}
 use Rattle.load.proofs.memory.none_left.Statement.{statement}
 use Rattle.load.proofs.memory.none_left.Tie as tie
-use Rattle.load.proofs.memory.none_left.Reads as reads
-use Rattle.load.proofs.memory.none_left.Lts as lts
 
 abbrev Inv-loop : tie.InvT-loop
-Inv-loop count carries i₀ i = ?
+Inv-loop count carries i₀ i = (i ≤ count) × (all (λ c. eqb c 0) (take count carries) ≡ all (λ c. eqb c 0) (slice i count carries))
 
 abbrev μ-loop : tie.MeasureT-loop
-μ-loop count carries i₀ i = ?
+μ-loop count carries i₀ i = count - i
 
--- src/memory.rt:104:5
 loop-holds : tie.Need-loop-holds Inv-loop μ-loop
-loop-holds c = ?
+loop-holds c = search needs
 
--- src/memory.rt:105:12
 mul-if1 : tie.Need-mul-if1 Inv-loop μ-loop
-mul-if1 c = ?
+mul-if1 c = search needs
 
--- src/memory.rt:105:12
 array-read-if1 : tie.Need-array-read-if1 Inv-loop μ-loop
-array-read-if1 c = ?
+array-read-if1 c = search needs
 
--- src/memory.rt:106:13
 returns : tie.Need-returns Inv-loop μ-loop
-returns c = ?
+returns c =
+    let a = c .before .before .before .args in
+    let l = c .before .before .loop in
+    sym (l .inv .1 ∙ all-no (λ (c : ℕ). eqb c 0) (a .t1) (l .i) (a .count) 0 (omega arith) (omega arith) (ne-eqb _ _ (c .if1 .taken)))
 
--- src/memory.rt:108:9
 add-i : tie.Need-add-i Inv-loop μ-loop
-add-i c = ?
+add-i c = search needs
 
--- src/memory.rt:104:5
 loop-less : tie.Need-loop-less Inv-loop μ-loop
-loop-less c = ?
+loop-less c = search needs
 
--- src/memory.rt:104:5
 loop-again : tie.Need-loop-again Inv-loop μ-loop
-loop-again c = ?
+loop-again c =
+    let a = c .before .before .before .args in
+    let l = c .before .before .loop in
+    (omega arith, l .inv .1 ∙ all-next (λ (c : ℕ). eqb c 0) (a .t1) (l .i) (a .count) 0 (omega arith) (omega arith) (eq-eqb _ _ (c .if1 .left)))
 
--- src/memory.rt:99:1
 returns-2 : tie.Need-returns-2 Inv-loop μ-loop
-returns-2 c = ?
+returns-2 c =
+    let a = c .before .before .args in
+    let l = c .before .loop in
+    sym (l .inv .1 ∙ all-end (λ (c : ℕ). eqb c 0) (a .t1) (l .i) (a .count) (omega arith))
 
 pub none-left-spec : {M : Type 1} → statement M
 none-left-spec =

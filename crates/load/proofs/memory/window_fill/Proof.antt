@@ -1,66 +1,67 @@
+-- `load::memory::window_fill` meets its contract. The invariant: the streams before i were added, and the carries are those from w on of
+-- them and from e on of the others. The measure is what is left of the streams. Assumes nothing.
+use Prim.Native.Nat.{_-_, _≤_}
+use native.Mathlib.Omega.{arith}
+use borrow.Author.Needs.{needs}
+use Rattle.load.specs.FillLaws.{Filling, filling-none, filling-asks, filling-next, filling-all}
 use Rattle.load.proofs.memory.window_fill.Statement.{statement}
 use Rattle.load.proofs.memory.window_fill.Tie as tie
-use Rattle.load.proofs.memory.window_fill.Reads as reads
-use Rattle.load.proofs.memory.window_fill.Lts as lts
-use Rattle.load.proofs.memory.window_add.Reads as window-add-reads
 
 abbrev Inv-loop : tie.InvT-loop
-Inv-loop file count window₀ w e xs left₀ i₀ window left i = ?
+Inv-loop file count window₀ w e xs left₀ i₀ window left i = Filling file xs count window₀ w e window left i
 
 abbrev μ-loop : tie.MeasureT-loop
-μ-loop file count window₀ w e xs left₀ i₀ window left i = ?
+μ-loop file count window₀ w e xs left₀ i₀ window left i = count - i
 
--- src/memory.rt:74:5
 loop-holds : tie.Need-loop-holds Inv-loop μ-loop
-loop-holds c = ?
+loop-holds c =
+    let a = c .before .before .args in
+    filling-none (a .file .now) (a .t2) (a .count) (a .window .now) (a .w) (a .e) (a .carries) (omega arith) (c .before .before .pre)
 
--- src/memory.rt:75:17
 mul-x : tie.Need-mul-x Inv-loop μ-loop
-mul-x c = ?
+mul-x c = search needs
 
--- src/memory.rt:75:17
 array-copy-out-x : tie.Need-array-copy-out-x Inv-loop μ-loop
-array-copy-out-x c = ?
+array-copy-out-x c = search needs
 
--- src/memory.rt:76:17
 mul-c : tie.Need-mul-c Inv-loop μ-loop
-mul-c c = ?
+mul-c c = search needs
 
--- src/memory.rt:76:17
 array-read-c : tie.Need-array-read-c Inv-loop μ-loop
-array-read-c c = ?
+array-read-c c = search needs
 
--- src/memory.rt:77:19
 window-add-requires : tie.Need-window-add-requires Inv-loop μ-loop
-window-add-requires c κs = ?
+window-add-requires c κs =
+    let a = c .before .before .before .before .before .before .args in
+    let l = c .before .before .before .loop in
+    filling-asks (a .file .now) (a .t2) (a .count) (a .window .now) (a .w) (a .e) (l .window) (l .left) (l .i) (c .before .before .loop-test .taken) (c .before .before .before .before .before .before .pre .few) (l .inv) (a .carries) (c .before .before .before .before .before .before .pre)
 
--- src/memory.rt:77:9
 mul-left : tie.Need-mul-left Inv-loop μ-loop
-mul-left c = ?
+mul-left c = search needs
 
--- src/memory.rt:77:9
 array-write-left : tie.Need-array-write-left Inv-loop μ-loop
-array-write-left c = ?
+array-write-left c = search needs
 
--- src/memory.rt:78:9
 add-i : tie.Need-add-i Inv-loop μ-loop
-add-i c = ?
+add-i c = search needs
 
--- src/memory.rt:74:5
 loop-less : tie.Need-loop-less Inv-loop μ-loop
-loop-less c = ?
+loop-less c = search needs
 
--- src/memory.rt:74:5
 loop-again : tie.Need-loop-again Inv-loop μ-loop
-loop-again c = ?
+loop-again c =
+    let a = c .before .before .before .before .before .before .before .before .before .args in
+    let l = c .before .before .before .before .before .before .loop in
+    filling-next (a .file .now) (a .t2) (a .count) (a .window .now) (a .w) (a .e) (l .window) (l .left) (l .i) (c .before .before .before .before .before .loop-test .taken) (c .before .before .before .before .before .before .before .before .before .pre .few) (l .inv) (c .before .before .window-add .last .1 .1 .0) (c .before .before .window-add .result) (omega arith) (c .before .before .window-add .ensures)
 
--- src/memory.rt:60:1
 same-length : tie.Need-same-length Inv-loop μ-loop
-same-length c = ?
+same-length c = search needs
 
--- src/memory.rt:60:1
 returns : tie.Need-returns Inv-loop μ-loop
-returns c = ?
+returns c =
+    let a = c .before .before .before .before .args in
+    let l = c .before .loop in
+    filling-all (a .file .now) (a .t2) (a .count) (a .window .now) (a .w) (a .e) (l .window) (l .left) (l .i) (omega arith) (l .inv)
 
 pub window-fill-spec : {M : Type 1} → statement M
 window-fill-spec =
