@@ -2,9 +2,5 @@
 pub mod Stream
 pub mod Basic
 pub mod Disk
-pub mod Memory
 pub mod Lists
 pub mod StreamLaws
-pub mod Parts
-pub mod WindowLaws
-pub mod FillLaws

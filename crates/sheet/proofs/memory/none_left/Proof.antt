@@ -1,4 +1,4 @@
--- `load::memory::none_left` meets its contract. The invariant: the answer is that of the places from i on. The measure is what is left
+-- `sheet::memory::none_left` meets its contract. The invariant: the answer is that of the places from i on. The measure is what is left
 -- of them. Assumes nothing.
 use mathlib.Core.Path.{_≡_, sym, _∙_}
 use Prim.Native.Nat.{ℕ, _-_, _≤_}
@@ -9,9 +9,9 @@ use lib.ListN.{take}
 use lib.Seq.{slice}
 use lib.Dec.{eqb}
 use Rattle.laws.specs.Tests.{all}
 use Rattle.load.specs.Lists.{all-no, all-next, all-end}
-use Rattle.load.proofs.memory.none_left.Statement.{statement}
-use Rattle.load.proofs.memory.none_left.Tie as tie
+use Rattle.sheet.proofs.memory.none_left.Statement.{statement}
+use Rattle.sheet.proofs.memory.none_left.Tie as tie
 
 abbrev Inv-loop : tie.InvT-loop
 Inv-loop count carries i₀ i = (i ≤ count) × (all (λ c. eqb c 0) (take count carries) ≡ all (λ c. eqb c 0) (slice i count carries))

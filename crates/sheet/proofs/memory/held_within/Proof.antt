@@ -1,4 +1,4 @@
--- `load::memory::held_within` meets its contract. The invariant: the rounds from e on keep the limit, and the carries are those of the
+-- `sheet::memory::held_within` meets its contract. The invariant: the rounds from e on keep the limit, and the carries are those of the
 -- rounds from e on. The measure is e. Assumes nothing.
 use mathlib.Core.Path.{sym, _∙_}
 use Prim.Native.Nat.{zero, _-_, _≤_}
@@ -7,9 +7,9 @@ use borrow.Author.Needs.{needs}
 use borrow.Author.Tests.{not-true, not-false}
 use lib.ListN.{replicate, length-replicate}
 use Rattle.limits.specs.Bounds.{maxBookings}
-use Rattle.load.specs.FillLaws.{Passed, passed-none, passed-no, passed-next, passed-all, zeros-at}
-use Rattle.load.proofs.memory.held_within.Statement.{statement}
-use Rattle.load.proofs.memory.held_within.Tie as tie
+use Rattle.sheet.specs.FillLaws.{Passed, passed-none, passed-no, passed-next, passed-all, zeros-at}
+use Rattle.sheet.proofs.memory.held_within.Statement.{statement}
+use Rattle.sheet.proofs.memory.held_within.Tie as tie
 
 abbrev Inv-loop : tie.InvT-loop
 Inv-loop file xs count day-rounds memory carries₀ e₀ carries e = (e ≤ day-rounds) × Passed file xs count day-rounds memory carries e

@@ -19,11 +19,11 @@ use Rattle.retrieval.specs.Carry.{carry}
 use Rattle.retrieval.specs.JustInTime.{due, existsBy}
 use Rattle.retrieval.specs.CarryLaws.{due-carry}
 use Rattle.retrieval.specs.Stored.{maxHeld, largest-bound}
 use Rattle.load.specs.Stream.{noStream, sendsOf, endOf, total, holdsIn, heldIn, carryFrom}
 use Rattle.load.specs.Basic.{Playable, Within, EachOf}
-use Rattle.load.specs.Memory.{feasible, memoryKept, Windowed, Added, Fills, Filled}
-use Rattle.load.specs.WindowLaws.{carry-late}
+use Rattle.sheet.specs.Memory.{feasible, memoryKept, Windowed, Added, Fills, Filled}
+use Rattle.sheet.specs.WindowLaws.{carry-late}
 use Rattle.load.specs.declared.stream.Stream.{Stream}
 
 -- ---- a list with one more
 

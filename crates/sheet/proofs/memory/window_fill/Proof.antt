@@ -1,11 +1,11 @@
--- `load::memory::window_fill` meets its contract. The invariant: the streams before i were added, and the carries are those from w on of
+-- `sheet::memory::window_fill` meets its contract. The invariant: the streams before i were added, and the carries are those from w on of
 -- them and from e on of the others. The measure is what is left of the streams. Assumes nothing.
 use Prim.Native.Nat.{_-_, _≤_}
 use native.Mathlib.Omega.{arith}
 use borrow.Author.Needs.{needs}
-use Rattle.load.specs.FillLaws.{Filling, filling-none, filling-asks, filling-next, filling-all}
-use Rattle.load.proofs.memory.window_fill.Statement.{statement}
-use Rattle.load.proofs.memory.window_fill.Tie as tie
+use Rattle.sheet.specs.FillLaws.{Filling, filling-none, filling-asks, filling-next, filling-all}
+use Rattle.sheet.proofs.memory.window_fill.Statement.{statement}
+use Rattle.sheet.proofs.memory.window_fill.Tie as tie
 
 abbrev Inv-loop : tie.InvT-loop
 Inv-loop file count window₀ w e xs left₀ i₀ window left i = Filling file xs count window₀ w e window left i

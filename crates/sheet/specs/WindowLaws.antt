@@ -14,12 +14,12 @@ use Rattle.retrieval.specs.Carry.{carry, profile}
 use Rattle.retrieval.specs.Stored.{maxHeld, InRange, length-sendsAt, length-profile, drop-all}
 use Rattle.retrieval.specs.Sheet.{plus, Room, Adds}
 use Rattle.retrieval.specs.SheetLaws.{slice-at, heldIn-small, room-largest, largest-part}
 use Rattle.load.specs.Stream.{sendsOf, endOf, openIn, profileOf, holdsIn, carryFrom}
 use Rattle.load.specs.StreamLaws.{open-early, open-late, open-within, open-place}
 use Rattle.load.specs.Basic.{Bounded, Playable}
-use Rattle.load.specs.Parts.{addAt, share, share-before, share-from, length-addAt, addAt-at, addAt-back, largest-addAt}
-use Rattle.load.specs.Memory.{Windowed, Added}
+use Rattle.sheet.specs.Parts.{addAt, share, share-before, share-from, length-addAt, addAt-at, addAt-back, largest-addAt}
+use Rattle.sheet.specs.Memory.{Windowed, Added}
 use Rattle.load.specs.declared.stream.Stream.{Stream}
 
 module _ (f : List ℕ) (x : Stream) where
   length-sendsOf : length (sendsOf f x) ≡ x .prefetch + x .rounds

@@ -1,4 +1,4 @@
--- `load::memory::window_within` meets its contract. The invariant: the answer is that of the places from i on. The measure is what is
+-- `sheet::memory::window_within` meets its contract. The invariant: the answer is that of the places from i on. The measure is what is
 -- left of them. Assumes nothing.
 use mathlib.Core.Path.{_≡_, sym, _∙_}
 use Prim.Native.Nat.{ℕ, _-_, _≤_}
@@ -9,9 +9,9 @@ use lib.ListN.{take}
 use lib.Seq.{slice}
 use lib.Dec.{leb}
 use Rattle.laws.specs.Tests.{all}
 use Rattle.load.specs.Lists.{all-no, all-next, all-end}
-use Rattle.load.proofs.memory.window_within.Statement.{statement}
-use Rattle.load.proofs.memory.window_within.Tie as tie
+use Rattle.sheet.proofs.memory.window_within.Statement.{statement}
+use Rattle.sheet.proofs.memory.window_within.Tie as tie
 
 abbrev Inv-loop : tie.InvT-loop
 Inv-loop window n memory i₀ i = (i ≤ n) × (all (λ h. leb h memory) (take n window) ≡ all (λ h. leb h memory) (slice i n window))

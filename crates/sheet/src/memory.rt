@@ -1,7 +1,7 @@
 // Memory's side of a day, tested in windows of rounds from the last to the first, so that no list by round is needed. A
 // stream's carry goes from window to window.
-use crate::stream::Stream;
 use limits::bounds::MAX_BOOKINGS;
+use load::stream::Stream;
 ghost use mathlib.Core.Path.{_≡_};
 ghost use mathlib.Core.Bool.{_&&_};
 ghost use Prim.Native.Nat.{_≤_, min, max};
@@ -9,8 +9,8 @@ ghost use lib.ListN.{length, take};
 ghost use lib.Dec.{leb, eqb};
 ghost use Rattle.limits.specs.Bounds.{maxBookings};
 ghost use Rattle.laws.specs.Tests.{all};
 ghost use Rattle.load.specs.Basic.{Playable, Within, EachOf};
-ghost use Rattle.load.specs.Memory.{feasible, memoryKept, Windowed, Added, Fills, Filled};
+ghost use Rattle.sheet.specs.Memory.{feasible, memoryKept, Windowed, Added, Fills, Filled};
 
 // rounds in a window, at most
 const WINDOW: usize = 4096;

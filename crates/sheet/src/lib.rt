@@ -1,0 +1,2 @@
+// What streams hold, by round: the memory limit tested in windows, and the day sheet.
+pub mod memory;
