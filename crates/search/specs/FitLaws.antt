@@ -1,0 +1,121 @@
+-- What rules a start out, and what makes it fit. Assumes nothing.
+use mathlib.Core.Path.{_≡_, refl, sym, ap, _∙_}
+use mathlib.Core.Bool.{Bool, true, false, cond, not, _&&_, true≢false}
+use mathlib.Core.List.{List, [], _∷_}
+use Prim.Native.Nat.{ℕ, zero, suc, _+_, _-_, _≤_, _<_, min, max}
+use native.Mathlib.Omega.{arith}
+use lib.ListN.{length, getD}
+use lib.Dec.{leb, ltb, eqb}
+use lib.Bits.{bitAnd}
+use borrow.Author.Tests.{ltb-true, ltb-false, lt-ltb, le-ltb, not-true}
+use Rattle.laws.specs.Tests.{left, right, join, below, below-at, below-all, all}
+use Rattle.load.specs.Stream.{lengthOf, endOf, clashes}
+use Rattle.load.specs.declared.stream.Stream.{Stream}
+use Rattle.search.specs.Fit.{Query, startAt, diskFits, memoryFits, cabsFit, fitsAt}
+use Rattle.search.specs.Search.{afterClash, afterClashes, NoneFits}
+
+-- ---- a start, by its three tests
+
+pub fits-disk : (q : Query) (s : ℕ) → fitsAt q s ≡ true → (t : ℕ) → s ≤ t → t < s + lengthOf (q .stream) → diskFits q t ≡ true
+unfolding fitsAt
+fits-disk q s e t h k =
+    let n = lengthOf (q .stream) in
+    let d : below n (λ j. diskFits q (s + j)) ≡ true = left _ _ e in
+    let place : s + (t - s) ≡ t = omega arith in
+    rw place at (below-at n (λ j. diskFits q (s + j)) d (t - s) (omega arith))
+
+pub fits-memory : (q : Query) (s : ℕ) → fitsAt q s ≡ true → (j : ℕ) → j < lengthOf (q .stream) → memoryFits q s j ≡ true
+unfolding fitsAt
+fits-memory q s e j h =
+    let n = lengthOf (q .stream) in
+    below-at n (λ i. memoryFits q s i) (left _ _ (right (below n (λ i. diskFits q (s + i))) e)) j h
+
+pub fits-cabs : (q : Query) (s : ℕ) → fitsAt q s ≡ true → cabsFit q s ≡ true
+unfolding fitsAt
+fits-cabs q s e =
+    let n = lengthOf (q .stream) in
+    right (below n (λ i. memoryFits q s i)) (right (below n (λ i. diskFits q (s + i))) e)
+
+pub fits-all : (q : Query) (s : ℕ) → ((t : ℕ) → s ≤ t → t < s + lengthOf (q .stream) → diskFits q t ≡ true)
+    → ((j : ℕ) → j < lengthOf (q .stream) → memoryFits q s j ≡ true) → cabsFit q s ≡ true → fitsAt q s ≡ true
+unfolding fitsAt
+fits-all q s d m c =
+    let n = lengthOf (q .stream) in
+    join (below-all n (λ j. diskFits q (s + j)) (λ j h. d (s + j) (omega arith) (omega arith)))
+    (join (below-all n (λ j. memoryFits q s j) m) c)
+
+-- ---- what rules starts out
+
+-- a round that the disk cannot take rules out every start that covers it
+pub disk-rules-out : (q : Query) (s t : ℕ) → diskFits q t ≡ false → t < s + lengthOf (q .stream) → NoneFits q s (suc t)
+disk-rules-out q s t b h u l k e = absurd (true≢false (sym (fits-disk q u e t (omega arith) (omega arith)) ∙ b))
+
+-- a round over the memory limit rules out its start
+pub memory-rules-out : (q : Query) (s j : ℕ) → memoryFits q s j ≡ false → j < lengthOf (q .stream) → NoneFits q s (suc s)
+memory-rules-out q s j b h u l k e =
+    let same : u ≡ s = omega arith in
+    absurd (true≢false (sym (fits-memory q s (rw same at e) j h) ∙ b))
+
+-- two streams with a cab in common show in a common round
+abbrev Meet : Stream → Stream → ℕ → Type 0
+Meet x y s = max (x .start + x .prefetch) (s + y .prefetch) < min (endOf x) (s + y .prefetch + y .rounds)
+
+clash-meet : (x y : Stream) (s : ℕ) → clashes x (startAt s y) ≡ true → Meet x y s
+unfolding clashes
+clash-meet x y s e = ltb-true _ _ (right (not (eqb (bitAnd (x .cabs) (y .cabs)) 0)) e)
+
+meet-clash : (x y : Stream) (s u : ℕ) → clashes x (startAt s y) ≡ true → Meet x y u → clashes x (startAt u y) ≡ true
+unfolding clashes
+meet-clash x y s u e m =
+    let common : Bool = not (eqb (bitAnd (x .cabs) (y .cabs)) 0) in
+    let c : common ≡ true = left common _ e in
+    join c (lt-ltb _ _ m)
+
+-- the start that a clash leaves comes later, and y clashes with x at each start before it
+pub after-later : (x y : Stream) (s : ℕ) → clashes x (startAt s y) ≡ true → s < endOf x - y .prefetch
+after-later x y s e = let m = clash-meet x y s e in omega arith
+
+after-clash : (x y : Stream) (s u : ℕ) → s ≤ u → u < afterClash x y s → clashes x (startAt u y) ≡ true
+unfolding afterClash
+after-clash x y s u h k = go (clashes x (startAt s y)) refl k
+  where
+    go : (b : Bool) → clashes x (startAt s y) ≡ b → u < cond b (endOf x - y .prefetch) s → clashes x (startAt u y) ≡ true
+    go true e l = let m = clash-meet x y s e in meet-clash x y s u e (omega arith)
+    go false e l = absurd (omega arith)
+
+after-none : (x y : Stream) (s : ℕ) → afterClash x y s ≤ s → not (clashes x (startAt s y)) ≡ true
+unfolding afterClash
+after-none x y s h = go (clashes x (startAt s y)) refl h
+  where
+    go : (b : Bool) → clashes x (startAt s y) ≡ b → cond b (endOf x - y .prefetch) s ≤ s → not b ≡ true
+    go true e k = absurd (omega (arith, after-later x y s e))
+    go false e k = refl
+
+-- where the next start is s itself, no stream of the list clashes
+pub clashes-none : (xs : List Stream) (y : Stream) (s : ℕ) → afterClashes xs y s ≤ s → all (λ x. not (clashes x (startAt s y))) xs ≡ true
+clashes-none [] y s h = refl
+clashes-none (x ∷ xs) y s h = go (ltb s (afterClash x y s)) refl h (clashes-none xs y s)
+  where
+    rest : Bool
+    rest = all (λ z. not (clashes z (startAt s y))) xs
+
+    go : (b : Bool) → ltb s (afterClash x y s) ≡ b → cond b (afterClash x y s) (afterClashes xs y s) ≤ s
+        → (afterClashes xs y s ≤ s → rest ≡ true) → not (clashes x (startAt s y)) && rest ≡ true
+    go true e k i = absurd (omega (arith, ltb-true s (afterClash x y s) e))
+    go false e k i = join (after-none x y s (ltb-false s (afterClash x y s) e)) (i k)
+
+-- and at each start before the next one the same stream clashes
+clashes-some : (xs : List Stream) (y : Stream) (s u : ℕ) → s ≤ u → u < afterClashes xs y s → all (λ x. not (clashes x (startAt u y))) xs ≡ true → ⊥
+clashes-some [] y s u h k e = absurd (omega arith)
+clashes-some (x ∷ xs) y s u h k e =
+    go (ltb s (afterClash x y s)) k (λ l. clashes-some xs y s u h l (right (not (clashes x (startAt u y))) e))
+  where
+    go : (b : Bool) → u < cond b (afterClash x y s) (afterClashes xs y s) → (u < afterClashes xs y s → ⊥) → ⊥
+    go true l i =
+        let c : clashes x (startAt u y) ≡ false = not-true _ (left _ _ e) in
+        absurd (true≢false (sym (after-clash x y s u h l) ∙ c))
+    go false l i = i l
+
+-- a standing stream that clashes at s rules out every start until it has ended
+pub cabs-rule-out : (q : Query) (s : ℕ) → NoneFits q s (afterClashes (q .standing) (q .stream) s)
+cabs-rule-out q s u h k e = clashes-some (q .standing) (q .stream) s u h k (fits-cabs q u e)
