@@ -36,23 +36,33 @@ abbrev pub startAt : ℕ → Stream → Stream
 startAt s y =
     record { at = y .at; rounds = y .rounds; start = s; prefetch = y .prefetch; reserve = y .reserve; cabs = y .cabs }
 
--- the disk can read one stream more in round t: "reserves + loss(films open) ≤ D"
-unfoldable pub diskFits : Query → ℕ → Bool
-diskFits q t = leb (getD (q .reserves) t 0 + q .stream .reserve + lossAt (getD (q .opens) t 0 + 1)) (q .disk)
+-- the disk can read a stream of reserve b more in round t: "reserves + loss(films open) ≤ D"
+unfoldable pub diskFits : List ℕ → List ℕ → ℕ → ℕ → ℕ → Bool
+diskFits opens reserves disk b t = leb (getD reserves t 0 + b + lossAt (getD opens t 0 + 1)) disk
 
--- memory takes what the stream, from s on, holds in round j of its own: "held ≤ M"
-unfoldable pub memoryFits : Query → ℕ → ℕ → Bool
-memoryFits q s j = leb (getD (q .helds) (s + j) 0 + getD (q .profile) j 0) (q .memory)
+-- memory takes what a stream from s on, with its profile, holds in round j of its own: "held ≤ M"
+unfoldable pub memoryFits : List ℕ → ℕ → List ℕ → ℕ → ℕ → Bool
+memoryFits helds memory profile s j = leb (getD helds (s + j) 0 + getD profile j 0) memory
 
--- "no cab shows two films": the stream, from s on, clashes with no standing one
-abbrev pub cabsFit : Query → ℕ → Bool
-cabsFit q s = all (λ x. not (clashes x (startAt s (q .stream)))) (q .standing)
+-- "no cab shows two films": a stream y from s on clashes with no standing one
+abbrev pub cabsFit : List Stream → Stream → ℕ → Bool
+cabsFit xs y s = all (λ x. not (clashes x (startAt s y))) xs
+
+-- the three of a query
+abbrev pub diskFree : Query → ℕ → Bool
+diskFree q t = diskFits (q .opens) (q .reserves) (q .disk) (q .stream .reserve) t
+
+abbrev pub memoryFree : Query → ℕ → ℕ → Bool
+memoryFree q s j = memoryFits (q .helds) (q .memory) (q .profile) s j
+
+abbrev pub cabsFree : Query → ℕ → Bool
+cabsFree q s = cabsFit (q .standing) (q .stream) s
 
 -- the stream fits from s on: in each of its rounds for the disk and for memory, and with its cabs
 unfoldable pub fitsAt : Query → ℕ → Bool
 fitsAt q s =
-    below (lengthOf (q .stream)) (λ j. diskFits q (s + j))
-    && (below (lengthOf (q .stream)) (λ j. memoryFits q s j) && cabsFit q s)
+    below (lengthOf (q .stream)) (λ j. diskFree q (s + j))
+    && (below (lengthOf (q .stream)) (λ j. memoryFree q s j) && cabsFree q s)
 
 -- a start, or none, as the search gives it
 abbrev pub answerOf : Rattle.model.specs.Fit.Found → Found
@@ -71,14 +81,27 @@ pub record InRange (file : List ℕ) (y : Stream) : Type 0 where
 abbrev pub heldLimit : ℕ
 heldLimit = 2 ^ 62
 
--- every round that a start of the window covers is a round of the day, and has its place in each list of the sheet, where a
--- number stands that at most 255 streams can give; each standing stream ends within the day
-pub record SheetFor (q : Query) (last : ℕ) : Type 0 where
+-- the rounds below e have their places in the lists of films open and of reserves, and numbers that a day's bookings can give
+-- and that leave room for one more
+pub record DiskRows (opens reserves : List ℕ) (e : ℕ) : Type 0 where
+  pub opens-long : e ≤ length opens
+  pub reserves-long : e ≤ length reserves
+  pub opens-small : (t : ℕ) → t < e → getD opens t 0 < maxBookings
+  pub reserves-small : (t : ℕ) → t < e → getD reserves t 0 ≤ maxBookings * maxReserve
+
+-- and so in a list of bytes held
+pub record HeldRows (helds : List ℕ) (e : ℕ) : Type 0 where
+  pub long : e ≤ length helds
+  pub small : (t : ℕ) → t < e → getD helds t 0 < heldLimit
+
+-- each stream ends within the day
+abbrev pub EndInDay : List Stream → Type 0
+EndInDay xs = (i : ℕ) → i < length xs → endOf (getD xs i noStream) ≤ maxDay
+
+-- every round that a start of the window covers is one of the day and of the sheet
+pub record Window (q : Query) (last : ℕ) : Type 0 where
   pub day : last + lengthOf (q .stream) ≤ maxDay
-  pub opens-long : last + lengthOf (q .stream) ≤ length (q .opens)
-  pub reserves-long : last + lengthOf (q .stream) ≤ length (q .reserves)
-  pub helds-long : last + lengthOf (q .stream) ≤ length (q .helds)
-  pub opens-small : (t : ℕ) → t < last + lengthOf (q .stream) → getD (q .opens) t 0 < maxBookings
-  pub reserves-small : (t : ℕ) → t < last + lengthOf (q .stream) → getD (q .reserves) t 0 ≤ maxBookings * maxReserve
-  pub helds-small : (t : ℕ) → t < last + lengthOf (q .stream) → getD (q .helds) t 0 < heldLimit
-  pub ends : (i : ℕ) → i < length (q .standing) → endOf (getD (q .standing) i noStream) ≤ maxDay
+  pub disk : DiskRows (q .opens) (q .reserves) (last + lengthOf (q .stream))
+  pub memory : HeldRows (q .helds) (last + lengthOf (q .stream))
+  pub reserve : q .stream .reserve ≤ maxReserve
+  pub standing : EndInDay (q .standing)

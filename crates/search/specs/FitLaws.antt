@@ -3,6 +3,7 @@ use mathlib.Core.Path.{_≡_, refl, sym, ap, _∙_}
 use mathlib.Core.Bool.{Bool, true, false, cond, not, _&&_, true≢false}
 use mathlib.Core.List.{List, [], _∷_}
 use Prim.Native.Nat.{ℕ, zero, suc, _+_, _-_, _≤_, _<_, min, max}
+use native.Mathlib.Decide.{decLe}
 use native.Mathlib.Omega.{arith}
 use lib.ListN.{length, getD}
 use lib.Dec.{leb, ltb, eqb}
@@ -11,47 +12,47 @@ use borrow.Author.Tests.{ltb-true, ltb-false, lt-ltb, le-ltb, not-true}
 use Rattle.laws.specs.Tests.{left, right, join, below, below-at, below-all, all}
 use Rattle.load.specs.Stream.{lengthOf, endOf, clashes}
 use Rattle.load.specs.declared.stream.Stream.{Stream}
-use Rattle.search.specs.Fit.{Query, startAt, diskFits, memoryFits, cabsFit, fitsAt}
+use Rattle.search.specs.Fit.{Query, startAt, diskFree, memoryFree, cabsFree, fitsAt, HeldRows, DiskRows}
 use Rattle.search.specs.Search.{afterClash, afterClashes, NoneFits}
 
 -- ---- a start, by its three tests
 
-pub fits-disk : (q : Query) (s : ℕ) → fitsAt q s ≡ true → (t : ℕ) → s ≤ t → t < s + lengthOf (q .stream) → diskFits q t ≡ true
+pub fits-disk : (q : Query) (s : ℕ) → fitsAt q s ≡ true → (t : ℕ) → s ≤ t → t < s + lengthOf (q .stream) → diskFree q t ≡ true
 unfolding fitsAt
 fits-disk q s e t h k =
     let n = lengthOf (q .stream) in
-    let d : below n (λ j. diskFits q (s + j)) ≡ true = left _ _ e in
+    let d : below n (λ j. diskFree q (s + j)) ≡ true = left _ _ e in
     let place : s + (t - s) ≡ t = omega arith in
-    rw place at (below-at n (λ j. diskFits q (s + j)) d (t - s) (omega arith))
+    rw place at (below-at n (λ j. diskFree q (s + j)) d (t - s) (omega arith))
 
-pub fits-memory : (q : Query) (s : ℕ) → fitsAt q s ≡ true → (j : ℕ) → j < lengthOf (q .stream) → memoryFits q s j ≡ true
+pub fits-memory : (q : Query) (s : ℕ) → fitsAt q s ≡ true → (j : ℕ) → j < lengthOf (q .stream) → memoryFree q s j ≡ true
 unfolding fitsAt
 fits-memory q s e j h =
     let n = lengthOf (q .stream) in
-    below-at n (λ i. memoryFits q s i) (left _ _ (right (below n (λ i. diskFits q (s + i))) e)) j h
+    below-at n (λ i. memoryFree q s i) (left _ _ (right (below n (λ i. diskFree q (s + i))) e)) j h
 
-pub fits-cabs : (q : Query) (s : ℕ) → fitsAt q s ≡ true → cabsFit q s ≡ true
+pub fits-cabs : (q : Query) (s : ℕ) → fitsAt q s ≡ true → cabsFree q s ≡ true
 unfolding fitsAt
 fits-cabs q s e =
     let n = lengthOf (q .stream) in
-    right (below n (λ i. memoryFits q s i)) (right (below n (λ i. diskFits q (s + i))) e)
+    right (below n (λ i. memoryFree q s i)) (right (below n (λ i. diskFree q (s + i))) e)
 
-pub fits-all : (q : Query) (s : ℕ) → ((t : ℕ) → s ≤ t → t < s + lengthOf (q .stream) → diskFits q t ≡ true)
-    → ((j : ℕ) → j < lengthOf (q .stream) → memoryFits q s j ≡ true) → cabsFit q s ≡ true → fitsAt q s ≡ true
+pub fits-all : (q : Query) (s : ℕ) → ((t : ℕ) → s ≤ t → t < s + lengthOf (q .stream) → diskFree q t ≡ true)
+    → ((j : ℕ) → j < lengthOf (q .stream) → memoryFree q s j ≡ true) → cabsFree q s ≡ true → fitsAt q s ≡ true
 unfolding fitsAt
 fits-all q s d m c =
     let n = lengthOf (q .stream) in
-    join (below-all n (λ j. diskFits q (s + j)) (λ j h. d (s + j) (omega arith) (omega arith)))
-    (join (below-all n (λ j. memoryFits q s j) m) c)
+    join (below-all n (λ j. diskFree q (s + j)) (λ j h. d (s + j) (omega arith) (omega arith)))
+    (join (below-all n (λ j. memoryFree q s j) m) c)
 
 -- ---- what rules starts out
 
 -- a round that the disk cannot take rules out every start that covers it
-pub disk-rules-out : (q : Query) (s t : ℕ) → diskFits q t ≡ false → t < s + lengthOf (q .stream) → NoneFits q s (suc t)
+pub disk-rules-out : (q : Query) (s t : ℕ) → diskFree q t ≡ false → t < s + lengthOf (q .stream) → NoneFits q s (suc t)
 disk-rules-out q s t b h u l k e = absurd (true≢false (sym (fits-disk q u e t (omega arith) (omega arith)) ∙ b))
 
 -- a round over the memory limit rules out its start
-pub memory-rules-out : (q : Query) (s j : ℕ) → memoryFits q s j ≡ false → j < lengthOf (q .stream) → NoneFits q s (suc s)
+pub memory-rules-out : (q : Query) (s j : ℕ) → memoryFree q s j ≡ false → j < lengthOf (q .stream) → NoneFits q s (suc s)
 memory-rules-out q s j b h u l k e =
     let same : u ≡ s = omega arith in
     absurd (true≢false (sym (fits-memory q s (rw same at e) j h) ∙ b))
@@ -119,3 +120,27 @@ clashes-some (x ∷ xs) y s u h k e =
 -- a standing stream that clashes at s rules out every start until it has ended
 pub cabs-rule-out : (q : Query) (s : ℕ) → NoneFits q s (afterClashes (q .standing) (q .stream) s)
 cabs-rule-out q s u h k e = clashes-some (q .standing) (q .stream) s u h k (fits-cabs q u e)
+
+-- ---- fewer rounds of a list
+
+pub fewer-held : {helds : List ℕ} {e : ℕ} (d : ℕ) → d ≤ e → HeldRows helds e → HeldRows helds d
+fewer-held d h r = record { long = omega (arith, r .long); small = λ t k. r .small t (omega arith) }
+
+pub fewer-disk : {opens reserves : List ℕ} {e : ℕ} (d : ℕ) → d ≤ e → DiskRows opens reserves e → DiskRows opens reserves d
+fewer-disk d h r =
+    record {
+      opens-long = omega (arith, r .opens-long);
+      reserves-long = omega (arith, r .reserves-long);
+      opens-small = λ t k. r .opens-small t (omega arith);
+      reserves-small = λ t k. r .reserves-small t (omega arith);
+    }
+
+-- ---- one round more from which on a test passes
+
+pub pass-more : (f : ℕ → Bool) (r e : ℕ) → ((t : ℕ) → r ≤ t → t < e → f t ≡ true) → f (r - 1) ≡ true
+    → (t : ℕ) → r - 1 ≤ t → t < e → f t ≡ true
+pass-more f r e g h t k l = go (decLe r t)
+  where
+    go : Dec (r ≤ t) → f t ≡ true
+    go (yes m) = g t m l
+    go (no m) = let same : r - 1 ≡ t = omega arith in rw same at h

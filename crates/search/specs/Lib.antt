@@ -2,4 +2,4 @@
 pub mod Fit
 pub mod Search
 pub mod FitLaws
-pub mod Window
+pub mod WindowLaws

@@ -8,7 +8,7 @@ use lib.ListN.{length, getD}
 use lib.Dec.{ltb}
 use Rattle.load.specs.Stream.{lengthOf, endOf, clashes}
 use Rattle.load.specs.declared.stream.Stream.{Stream}
-use Rattle.search.specs.Fit.{Query, startAt, diskFits, memoryFits, fitsAt, heldLimit}
+use Rattle.search.specs.Fit.{Query, startAt, diskFree, fitsAt, HeldRows, Window}
 use Rattle.search.specs.declared.Step.{Step}
 use Rattle.search.specs.declared.Step.the-variants.{Fits, Next}
 
@@ -39,15 +39,15 @@ abbrev pub afterClashes : List Stream → Stream → ℕ → ℕ
 afterClashes [] y s = s
 afterClashes (x ∷ xs) y s = cond (ltb s (afterClash x y s)) (afterClash x y s) (afterClashes xs y s)
 
--- the numbers of the stream's profile have their places and are small
-pub record Profiled (q : Query) : Type 0 where
-  pub long : lengthOf (q .stream) ≤ length (q .profile)
-  pub small : (j : ℕ) → j < lengthOf (q .stream) → getD (q .profile) j 0 < heldLimit
+-- what the walk over a window asks
+pub record Walks (q : Query) (last : ℕ) : Type 0 where
+  pub window : Window q last
+  pub profile : HeldRows (q .profile) (lengthOf (q .stream))
 
 -- the rounds from a start to a round `clear` are free for the disk, and no later start's are asked of it
 pub record Clear (q : Query) (start clear : ℕ) : Type 0 where
   pub near : clear ≤ start + lengthOf (q .stream)
-  pub free : (t : ℕ) → start ≤ t → t < clear → diskFits q t ≡ true
+  pub free : (t : ℕ) → start ≤ t → t < clear → diskFree q t ≡ true
 
 -- no start from a to e - 1 fits
 abbrev pub NoneFits : Query → ℕ → ℕ → Type 0

@@ -1,5 +1,8 @@
 // The first start of a booking's window that fits.
-use load::stream::Stream;
+pub mod cabs;
+pub mod disk;
+pub mod memory;
+ghost use mathlib.Core.Path.{_≡_};
 
 // A start, or none of the window's.
 pub enum Found {
