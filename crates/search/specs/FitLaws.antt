@@ -5,14 +5,17 @@ use mathlib.Core.List.{List, [], _∷_}
 use Prim.Native.Nat.{ℕ, zero, suc, _+_, _-_, _≤_, _<_, min, max}
 use native.Mathlib.Decide.{decLe}
 use native.Mathlib.Omega.{arith}
-use lib.ListN.{length, getD}
+use native.Mathlib.Numerals.{add-one}
+use lib.ListN.{length, getD, take}
+use lib.Seq.{slice, slice-cons, slice-empty, length-take-le, getD-take}
 use lib.Dec.{leb, ltb, eqb}
 use lib.Bits.{bitAnd}
-use borrow.Author.Tests.{ltb-true, ltb-false, lt-ltb, le-ltb, not-true}
+use borrow.Author.Tests.{ltb-true, ltb-false, lt-ltb, le-ltb, eq-eqb, ne-eqb, not-true}
+use Rattle.limits.specs.Bounds.{maxDay}
 use Rattle.laws.specs.Tests.{left, right, join, below, below-at, below-all, all}
-use Rattle.load.specs.Stream.{lengthOf, endOf, clashes}
+use Rattle.load.specs.Stream.{noStream, lengthOf, endOf, clashes}
 use Rattle.load.specs.declared.stream.Stream.{Stream}
-use Rattle.search.specs.Fit.{Query, startAt, diskFree, memoryFree, cabsFree, fitsAt, HeldRows, DiskRows}
+use Rattle.search.specs.Fit.{Query, startAt, diskFree, memoryFree, cabsFree, fitsAt, HeldRows, DiskRows, EndInDay}
 use Rattle.search.specs.Search.{afterClash, afterClashes, NoneFits}
 
 -- ---- a start, by its three tests
@@ -58,7 +61,7 @@ memory-rules-out q s j b h u l k e =
     absurd (true≢false (sym (fits-memory q s (rw same at e) j h) ∙ b))
 
 -- two streams with a cab in common show in a common round
-abbrev Meet : Stream → Stream → ℕ → Type 0
+abbrev pub Meet : Stream → Stream → ℕ → Type 0
 Meet x y s = max (x .start + x .prefetch) (s + y .prefetch) < min (endOf x) (s + y .prefetch + y .rounds)
 
 clash-meet : (x y : Stream) (s : ℕ) → clashes x (startAt s y) ≡ true → Meet x y s
@@ -144,3 +147,38 @@ pass-more f r e g h t k l = go (decLe r t)
     go : Dec (r ≤ t) → f t ≡ true
     go (yes m) = g t m l
     go (no m) = let same : r - 1 ≡ t = omega arith in rw same at h
+
+-- ---- the start that a pair of streams leaves, by cases
+
+pub after-apart : (x y : Stream) (s : ℕ) → bitAnd (x .cabs) (y .cabs) ≡ 0 → s ≡ afterClash x y s
+unfolding afterClash clashes
+after-apart x y s e = rw (eq-eqb (bitAnd (x .cabs) (y .cabs)) 0 e)
+
+pub after-meets : (x y : Stream) (s : ℕ) → (bitAnd (x .cabs) (y .cabs) ≡ 0 → ⊥) → Meet x y s → endOf x - y .prefetch ≡ afterClash x y s
+unfolding afterClash clashes
+after-meets x y s e m = rw (ne-eqb (bitAnd (x .cabs) (y .cabs)) 0 e, lt-ltb _ _ m)
+
+pub after-misses : (x y : Stream) (s : ℕ) → (Meet x y s → ⊥) → s ≡ afterClash x y s
+unfolding afterClash
+after-misses x y s m = go (clashes x (startAt s y)) refl
+  where
+    go : (b : Bool) → clashes x (startAt s y) ≡ b → s ≡ cond b (endOf x - y .prefetch) s
+    go true e = absurd (m (clash-meet x y s e))
+    go false e = refl
+
+-- the same of a list, one stream on
+pub clashes-stop : (xs : List Stream) (y d : Stream) (s i n : ℕ) → i < n → n ≤ length xs → s < afterClash (getD xs i d) y s
+    → afterClash (getD xs i d) y s ≡ afterClashes (slice i n xs) y s
+clashes-stop xs y d s i n h k l = rw (slice-cons i n xs d h k, lt-ltb _ _ l)
+
+pub clashes-next : (xs : List Stream) (y d : Stream) (s i n : ℕ) → i < n → n ≤ length xs → afterClash (getD xs i d) y s ≤ s
+    → afterClashes (slice i n xs) y s ≡ afterClashes (slice (i + 1) n xs) y s
+clashes-next xs y d s i n h k l = rw (slice-cons i n xs d h k, le-ltb _ _ l, add-one)
+
+pub clashes-end : (xs : List Stream) (y : Stream) (s i n : ℕ) → i ≡ n → afterClashes (slice i n xs) y s ≡ s
+clashes-end xs y s i n e = rw (e, slice-empty)
+
+pub ends-at : (xs : List Stream) (n i : ℕ) → EndInDay (take n xs) → i < n → n ≤ length xs → endOf (getD xs i noStream) ≤ maxDay
+ends-at xs n i e h k =
+    let l : i < length (take n xs) = omega (arith, length-take-le n xs k) in
+    rw (getD-take n xs i noStream h) at (e i l)
