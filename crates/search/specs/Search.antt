@@ -9,8 +9,8 @@ use lib.Dec.{ltb}
 use Rattle.load.specs.Stream.{lengthOf, endOf, clashes}
 use Rattle.load.specs.declared.stream.Stream.{Stream}
 use Rattle.search.specs.Fit.{Query, startAt, diskFree, fitsAt, HeldRows, Window}
-use Rattle.search.specs.declared.Step.{Step}
-use Rattle.search.specs.declared.Step.the-variants.{Fits, Next}
+use Rattle.search.specs.declared.window.Step.{Step}
+use Rattle.search.specs.declared.window.Step.the-variants.{Fits, Next}
 
 -- of the rounds a to e - 1, those from r on pass a test, and the one before r, if it is one of them, does not
 pub record PassFrom (f : ℕ → Bool) (a e r : ℕ) : Type 0 where

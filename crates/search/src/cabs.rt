@@ -8,7 +8,7 @@ ghost use Rattle.load.specs.Stream.{lengthOf, endOf};
 ghost use Rattle.search.specs.Fit.{EndInDay};
 ghost use Rattle.search.specs.Search.{afterClash, afterClashes};
 
-fn larger(a: usize, b: usize) -> usize
+pub fn larger(a: usize, b: usize) -> usize
     ensures { λ r. ⌜ r ≡ max a b ⌝ }
 {
     if a < b { b } else { a }

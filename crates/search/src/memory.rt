@@ -31,7 +31,14 @@ pub fn first_over(helds: &[u64], memory: u64, profile: &[u64], s: usize, n: usiz
 // The rounds near and near - 1, if they are rounds of a stream from s on, tried before all others: one in which memory cannot
 // take it, or n. Where the start before was refused in round near of the stream, the one has the same bytes of the stream, and
 // the other is the same round of the day.
-pub fn near_over(helds: &[u64], memory: u64, profile: &[u64], s: usize, n: usize, near: usize) -> usize
+pub fn near_over(
+    helds: &[u64],
+    memory: u64,
+    profile: &[u64],
+    s: usize,
+    n: usize,
+    near: usize,
+) -> usize
     requires { ⌜ (HeldRows (now helds) (s + n)) × (HeldRows (now profile) n) ⌝ }
     ensures { λ r. ⌜ Fails (λ j. memoryFits (now (helds .entry)) memory (now (profile .entry)) s j) n r ⌝ }
 {

@@ -47,8 +47,7 @@ loop-again : tie.Need-loop-again Inv-loop μ-loop
 unfolding diskFits
 loop-again c =
     let l = c .before .before .before .before .before .loop in
-    let a = c .before .before .before .before .before .before .before .before .args in
-    (
+    let a = c .before .before .before .before .before .before .before .before .args in (
       omega arith,
       omega arith,
       pass-more (diskFits (a .opens .now) (a .reserves .now) (a .disk) (a .b)) (l .r) (a .e) (l .inv .2) (sym (c .before .takes .ensures) ∙ c .if1 .taken),

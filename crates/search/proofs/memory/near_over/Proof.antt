@@ -22,8 +22,7 @@ sub-takes c = search needs
 takes-requires-2 : tie.Need-takes-requires-2
 takes-requires-2 c κs =
     let start = c .before .before .before .before .before .before in
-    let a = start .args in
-    (
+    let a = start .args in (
       fewer-held (a .s + (a .near - 1) + 1) (omega arith) (start .pre .0),
       fewer-held (a .near - 1 + 1) (omega arith) (start .pre .1),
     )
