@@ -55,3 +55,11 @@ module _ (q : Query) where
       → FirstFails (memoryFree q s) (lengthOf (q .stream)) r → lengthOf (q .stream) ≤ r → fitsAt q s ≡ true
   fits-now s r k c m h =
       fits-all q s (k .free) (λ j l. m .before j (omega arith)) (clashes-none (q .standing) (q .stream) s c)
+
+  -- one stretch of starts after another
+  pub none-on : (a s e : ℕ) → NoneFits q a s → NoneFits q s e → NoneFits q a e
+  none-on a s e f g u h k = go (decLe s u)
+    where
+      go : Dec (s ≤ u) → fitsAt q u ≡ true → ⊥
+      go (yes l) = g u l k
+      go (no l) = f u h (omega arith)

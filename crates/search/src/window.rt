@@ -85,3 +85,51 @@ pub fn try_start(
     }
     Step::Fits
 }
+
+// The first start from first to last at which the stream y fits.
+pub fn first_fit(
+    y: Stream,
+    profile: &[u64],
+    xs: [Stream; 256],
+    count: usize,
+    opens: &[u64],
+    reserves: &[u64],
+    helds: &[u64],
+    disk: u64,
+    memory: u64,
+    first: usize,
+    last: usize,
+) -> Found
+    requires { ⌜ (count ≤ maxBookings) × (Walks (queryOf y (now profile) (take count xs) (now opens) (now reserves) (now helds) disk memory) last) ⌝ }
+    ensures { λ r. ⌜ r ≡ answerOf (firstOf (fitsAt (queryOf y (now (profile .entry)) (take count xs) (now (opens .entry)) (now (reserves .entry)) (now (helds .entry)) disk memory)) first last) ⌝ }
+{
+    let mut c = Candidate {
+        start: first,
+        clear: first,
+        near: 0,
+    };
+    while c.start <= last {
+        let step = try_start(
+            y,
+            profile,
+            xs,
+            count,
+            opens,
+            reserves,
+            helds,
+            disk,
+            memory,
+            last,
+            c,
+        );
+        match step {
+            Step::Fits => {
+                return Found::At(c.start as u64);
+            }
+            Step::Next(next) => {
+                c = next;
+            }
+        }
+    }
+    Found::Nowhere
+}
