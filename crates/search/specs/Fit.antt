@@ -5,9 +5,8 @@ use mathlib.Core.List.{List}
 use Prim.Native.Nat.{ℕ, _+_, _*_, _^_, _≤_, _<_}
 use lib.ListN.{length, getD}
 use lib.Dec.{leb}
-use Rattle.limits.specs.Bounds.{maxPrefetch, maxReserve, maxDay, maxBookings}
+use Rattle.limits.specs.Bounds.{maxReserve, maxDay, maxBookings}
 use Rattle.laws.specs.Tests.{below, all}
-use Rattle.films.specs.Sizes.{Stored}
 use Rattle.loss.specs.Loss.{lossAt}
 use Rattle.load.specs.Stream.{noStream, lengthOf, endOf, clashes}
 use Rattle.load.specs.declared.stream.Stream.{Stream}
@@ -71,12 +70,6 @@ answerOf (at s) = At s
 
 -- ---- what the search asks of its caller
 
--- the stream's film stands in the file, and its numbers are within their bounds
-pub record InRange (file : List ℕ) (y : Stream) : Type 0 where
-  pub stored : Stored file (y .at) (y .rounds)
-  pub prefetch : y .prefetch ≤ maxPrefetch
-  pub reserve : y .reserve ≤ maxReserve
-
 -- bytes held in a round, below
 abbrev pub heldLimit : ℕ
 heldLimit = 2 ^ 62
@@ -103,5 +96,4 @@ pub record Window (q : Query) (last : ℕ) : Type 0 where
   pub day : last + lengthOf (q .stream) ≤ maxDay
   pub disk : DiskRows (q .opens) (q .reserves) (last + lengthOf (q .stream))
   pub memory : HeldRows (q .helds) (last + lengthOf (q .stream))
-  pub reserve : q .stream .reserve ≤ maxReserve
   pub standing : EndInDay (q .standing)

@@ -4,3 +4,4 @@ pub mod Search
 pub mod FitLaws
 pub mod WindowLaws
 pub mod StepLaws
+pub mod ProfileLaws

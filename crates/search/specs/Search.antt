@@ -6,6 +6,7 @@ use mathlib.Core.List.{List, [], _∷_}
 use Prim.Native.Nat.{ℕ, suc, _+_, _-_, _≤_, _<_}
 use lib.ListN.{length, getD}
 use lib.Dec.{ltb}
+use Rattle.limits.specs.Bounds.{maxReserve}
 use Rattle.load.specs.Stream.{lengthOf, endOf, clashes}
 use Rattle.load.specs.declared.stream.Stream.{Stream}
 use Rattle.search.specs.Fit.{Query, startAt, diskFree, fitsAt, HeldRows, Window}
@@ -43,6 +44,7 @@ afterClashes (x ∷ xs) y s = cond (ltb s (afterClash x y s)) (afterClash x y s)
 pub record Walks (q : Query) (last : ℕ) : Type 0 where
   pub window : Window q last
   pub profile : HeldRows (q .profile) (lengthOf (q .stream))
+  pub reserve : q .stream .reserve ≤ maxReserve
 
 -- the rounds from a start to a round `clear` are free for the disk, and no later start's are asked of it
 pub record Clear (q : Query) (start clear : ℕ) : Type 0 where

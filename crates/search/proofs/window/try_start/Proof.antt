@@ -56,7 +56,7 @@ free-from-requires : tie.Need-free-from-requires
 free-from-requires c κs =
     let start = c .before .before .before .before .before .before .before .before in
     let a = start .args in
-    (fewer-disk (a .c .start + lengthOf (a .y)) (omega arith) (start .pre .1 .window .disk), start .pre .1 .window .reserve, omega (arith, start .pre .3 .near, c .larger .ensures))
+    (fewer-disk (a .c .start + lengthOf (a .y)) (omega arith) (start .pre .1 .window .disk), start .pre .1 .reserve, omega (arith, start .pre .3 .near, c .larger .ensures))
 
 returns-2 : tie.Need-returns-2
 returns-2 c =
