@@ -26,7 +26,7 @@ pub fn free_from(opens: &[u64], reserves: &[u64], disk: u64, b: u64, a: usize, e
         if takes(opens[t], reserves[t], b, disk) {
             r = t;
         } else {
-            return r;
+            return t + 1;
         }
     }
     r

@@ -53,11 +53,15 @@ loop-again c =
       pass-more (diskFits (a .opens .now) (a .reserves .now) (a .disk) (a .b)) (l .r) (a .e) (l .inv .2) (sym (c .before .takes .ensures) ∙ c .if1 .taken),
     )
 
+add-result : tie.Need-add-result Inv-loop μ-loop
+add-result c = search needs
+
 returns : tie.Need-returns Inv-loop μ-loop
 unfolding diskFits
 returns c =
     let l = c .before .before .before .before .before .loop in
-    record { low = l .inv .0; high = l .inv .1; pass = l .inv .2; blocked = λ h. sym (c .before .takes .ensures) ∙ c .if1 .left }
+    let same : l .r - 1 + 1 ≡ l .r = omega arith in
+    rw same record { low = l .inv .0; high = l .inv .1; pass = l .inv .2; blocked = λ h. sym (c .before .takes .ensures) ∙ c .if1 .left }
 
 returns-2 : tie.Need-returns-2 Inv-loop μ-loop
 returns-2 c =
@@ -79,5 +83,6 @@ free-from-spec =
     takes-requires
     loop-less
     loop-again
+    add-result
     returns
     returns-2)
