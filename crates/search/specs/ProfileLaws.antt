@@ -5,15 +5,15 @@ use mathlib.Core.Bool.{Bool, _&&_}
 use mathlib.Core.List.{List}
 use Prim.Native.Nat.{ℕ, zero, suc, _+_, _≤_, _<_}
 use native.Mathlib.Omega.{arith}
-use lib.ListN.{length, getD, replicate, length-replicate, getD-replicate}
+use lib.ListN.{getD, replicate, length-replicate, getD-replicate}
 use lib.Dec.{leb}
 use Rattle.laws.specs.Tests.{below}
-use Rattle.retrieval.specs.Stored.{sendsAt, InRange, maxHeld, held-bound, length-sendsAt, length-profile, drop-all}
+use Rattle.retrieval.specs.Stored.{sendsAt, InRange, held-bound, length-sendsAt, drop-all}
 use Rattle.retrieval.specs.Sheet.{plus, heldIn, Adds}
 use Rattle.retrieval.specs.SheetLaws.{plus-at, length-plus, heldIn-whole, heldIn-small, largest-zeros, room-largest}
 use Rattle.load.specs.Stream.{lengthOf, profileOf}
 use Rattle.load.specs.declared.stream.Stream.{Stream}
-use Rattle.search.specs.Fit.{Query, queryOf, memoryFits, fitsAt, heldLimit, HeldRows}
+use Rattle.search.specs.Fit.{queryOf, memoryFits, fitsAt, HeldRows}
 
 below-same : (n : ℕ) (f g : ℕ → Bool) → ((t : ℕ) → t < n → f t ≡ g t) → below n f ≡ below n g
 below-same zero f g e = refl

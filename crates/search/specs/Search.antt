@@ -3,8 +3,7 @@
 use mathlib.Core.Path.{_≡_}
 use mathlib.Core.Bool.{Bool, true, false, cond}
 use mathlib.Core.List.{List, [], _∷_}
-use Prim.Native.Nat.{ℕ, suc, _+_, _-_, _≤_, _<_}
-use lib.ListN.{length, getD}
+use Prim.Native.Nat.{ℕ, _+_, _-_, _≤_, _<_}
 use lib.Dec.{ltb}
 use Rattle.limits.specs.Bounds.{maxReserve}
 use Rattle.load.specs.Stream.{lengthOf, endOf, clashes}
@@ -46,7 +45,7 @@ pub record Walks (q : Query) (last : ℕ) : Type 0 where
   pub profile : HeldRows (q .profile) (lengthOf (q .stream))
   pub reserve : q .stream .reserve ≤ maxReserve
 
--- the rounds from a start to a round `clear` are free for the disk, and no later start's are asked of it
+-- the rounds from a start to clear - 1 are free for the disk, and clear is not past the start's own rounds
 pub record Clear (q : Query) (start clear : ℕ) : Type 0 where
   pub near : clear ≤ start + lengthOf (q .stream)
   pub free : (t : ℕ) → start ≤ t → t < clear → diskFree q t ≡ true
@@ -55,12 +54,13 @@ pub record Clear (q : Query) (start clear : ℕ) : Type 0 where
 abbrev pub NoneFits : Query → ℕ → ℕ → Type 0
 NoneFits q a e = (s : ℕ) → a ≤ s → s < e → fitsAt q s ≡ true → ⊥
 
--- what is found out of a start: it fits, or none does from it up to the next one to try
+-- none fits from a start up to the next one to try
 pub record Skips (q : Query) (start next clear : ℕ) : Type 0 where
   pub later : start < next
   pub none : NoneFits q start next
   pub known : Clear q next clear
 
+-- what is found out of a start: it fits, or the next one to try
 abbrev pub Tells : Query → ℕ → Step → Type 0
 Tells q start Fits = fitsAt q start ≡ true
 Tells q start (Next c) = Skips q start (c .start) (c .clear)

@@ -1,12 +1,12 @@
 -- What a step of the search finds out, from its four tests. Assumes nothing.
-use mathlib.Core.Path.{_≡_, refl}
+use mathlib.Core.Path.{_≡_}
 use mathlib.Core.Bool.{true, false}
-use Prim.Native.Nat.{ℕ, suc, _+_, _-_, _≤_, _<_, max}
+use Prim.Native.Nat.{ℕ, _+_, _-_, _≤_, _<_, max}
 use native.Mathlib.Decide.{decLe}
 use native.Mathlib.Omega.{arith}
 use Rattle.load.specs.Stream.{lengthOf}
 use Rattle.search.specs.Fit.{Query, diskFree, memoryFree, fitsAt}
-use Rattle.search.specs.Search.{PassFrom, Fails, FirstFails, afterClashes, Clear, Skips, NoneFits}
+use Rattle.search.specs.Search.{PassFrom, FirstFails, afterClashes, Clear, Skips, NoneFits}
 use Rattle.search.specs.FitLaws.{fits-all, disk-rules-out, memory-rules-out, cabs-rule-out, clashes-none}
 
 module _ (q : Query) where
@@ -41,13 +41,12 @@ module _ (q : Query) where
       go t l m (no d) = k .free t l (omega arith)
 
   -- a clash: every start until the other stream has ended
-  pub skip-cabs : (s clear : ℕ) → Clear q s clear → s < afterClashes (q .standing) (q .stream) s
-      → Skips q s (afterClashes (q .standing) (q .stream) s) clear
-  skip-cabs s clear k h =
+  pub skip-cabs : (s next clear : ℕ) → Clear q s clear → next ≡ afterClashes (q .standing) (q .stream) s → s < next → Skips q s next clear
+  skip-cabs s next clear k e h =
       record {
         later = h;
-        none = cabs-rule-out q s;
-        known = clear-on s (afterClashes (q .standing) (q .stream) s) clear (omega arith) k;
+        none = λ u l m. cabs-rule-out q s u l (omega arith);
+        known = clear-on s next clear (omega arith) k;
       }
 
   -- nothing stands against the start

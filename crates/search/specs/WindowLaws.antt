@@ -1,5 +1,5 @@
 -- The starts of a window, tried in order. Assumes nothing.
-use mathlib.Core.Path.{_≡_, refl, sym, ap, _∙_}
+use mathlib.Core.Path.{_≡_, refl, sym, ap, ap₂, _∙_}
 use mathlib.Core.Bool.{Bool, true, false, cond, true≢false}
 use Prim.Native.Nat.{ℕ, zero, suc, _+_, _-_, _≤_, _<_}
 use native.Mathlib.Decide.{decLe}
@@ -37,3 +37,13 @@ module _ (f : ℕ → Bool) where
   -- none does
   pub none-found : (first last s : ℕ) → last < s → NonePass first s → firstOf f first last ≡ nowhere
   none-found first last s h g = missing (suc last - first) first (λ u v w. g u v (omega arith))
+
+-- two tests that agree on the window have the same first start
+search-same : (f g : ℕ → Bool) (n a : ℕ) → ((u : ℕ) → a ≤ u → u < a + n → f u ≡ g u) → search f a n ≡ search g a n
+search-same f g zero a e = refl
+search-same f g (suc n) a e =
+    ap₂ (λ (b : Bool) (o : Found). cond b (at a) o) (e a (omega arith) (omega arith))
+    (search-same f g n (suc a) (λ u h k. e u (omega arith) (omega arith)))
+
+pub first-same : (f g : ℕ → Bool) (first last : ℕ) → ((u : ℕ) → first ≤ u → u ≤ last → f u ≡ g u) → firstOf f first last ≡ firstOf g first last
+first-same f g first last e = search-same f g (suc last - first) first (λ u h k. e u h (omega arith))

@@ -12,7 +12,7 @@ use Rattle.load.specs.Stream.{lengthOf}
 use Rattle.model.specs.Fit.{firstOf}
 use Rattle.search.specs.Fit.{HeldRows, queryOf, fitsAt, answerOf}
 use Rattle.search.specs.declared.Found.{Found}
-use Rattle.search.specs.ProfileLaws.{worked, adds-zeros, worked-rows, worked-fits}
+use Rattle.search.specs.ProfileLaws.{adds-zeros, worked-rows, worked-fits}
 use Rattle.search.proofs.first_start.Statement.{statement}
 use Rattle.search.proofs.first_start.Tie as tie
 

@@ -1,10 +1,10 @@
 -- `search::cabs::after_clashes` meets its contract. The invariant: the streams from i on decide. The measure is what is left of
 -- the count. Assumes nothing.
-use Prim.Native.Nat.{_+_, _-_, _≤_, _<_}
-use mathlib.Core.Path.{_≡_, refl, sym, ap, _∙_}
+use Prim.Native.Nat.{_-_, _≤_}
+use mathlib.Core.Path.{_≡_, sym, _∙_}
 use native.Mathlib.Omega.{arith}
 use borrow.Author.Needs.{needs}
-use lib.ListN.{length, take}
+use lib.ListN.{take}
 use lib.Seq.{slice}
 use Rattle.load.specs.Stream.{noStream}
 use Rattle.search.specs.Search.{afterClashes}

@@ -60,8 +60,13 @@ returns : tie.Need-returns Inv-loop μ-loop
 unfolding diskFits
 returns c =
     let l = c .before .before .before .before .before .loop in
-    let same : l .r - 1 + 1 ≡ l .r = omega arith in
-    rw same record { low = l .inv .0; high = l .inv .1; pass = l .inv .2; blocked = λ h. sym (c .before .takes .ensures) ∙ c .if1 .left }
+    let same : l .r - 1 + 1 - 1 ≡ l .r - 1 = omega arith in
+    record {
+      low = omega arith;
+      high = omega arith;
+      pass = λ t h k. l .inv .2 t (omega arith) k;
+      blocked = λ h. rw same (sym (c .before .takes .ensures) ∙ c .if1 .left);
+    }
 
 returns-2 : tie.Need-returns-2 Inv-loop μ-loop
 returns-2 c =

@@ -1,6 +1,6 @@
 -- `search::window::first_fit` meets its contract. The invariant: no start of the window before the candidate fits. The measure is
 -- what is left of the window, since the next candidate is always a later start. Assumes nothing.
-use Prim.Native.Nat.{ℕ, suc, _+_, _-_, _≤_, _<_}
+use Prim.Native.Nat.{ℕ, suc, _-_, _≤_}
 use mathlib.Core.Path.{_≡_, sym, ap, subst}
 use mathlib.Core.Bool.{true}
 use native.Mathlib.Omega.{arith}

@@ -1,13 +1,12 @@
 -- `search::window::try_start` meets its contract: each test rules out what its law says, and where all four pass the start fits.
 -- Assumes nothing.
-use Prim.Native.Nat.{_+_, _-_, _≤_, _<_, max}
-use mathlib.Core.Path.{_≡_, sym, ap, _∙_}
+use Prim.Native.Nat.{_+_}
 use native.Mathlib.Omega.{arith}
 use borrow.Author.Needs.{needs}
 use lib.ListN.{take}
 use Rattle.load.specs.Stream.{lengthOf}
-use Rattle.search.specs.Fit.{Query, queryOf, diskFree}
-use Rattle.search.specs.Search.{PassFrom, Clear, Skips, afterClashes}
+use Rattle.search.specs.Fit.{Query, queryOf}
+use Rattle.search.specs.Search.{Clear}
 use Rattle.search.specs.FitLaws.{fewer-held, fewer-disk}
 use Rattle.search.specs.StepLaws.{skip-memory, skip-disk, clear-all, skip-cabs, fits-now}
 use Rattle.search.proofs.window.try_start.Statement.{statement}
@@ -71,8 +70,7 @@ returns-3 : tie.Need-returns-3
 returns-3 c =
     let start = c .before .before .before .before .before .before .before .before .before .before .before .before in
     let next = c .before .after-clashes in
-    let h : start .args .c .start < afterClashes (query start .standing) (query start .stream) (start .args .c .start) = omega (arith, next .ensures) in
-    rw (next .ensures) (skip-cabs (query start) (start .args .c .start) (start .args .c .start + lengthOf (start .args .y)) (cleared (c .before .before)) h)
+    skip-cabs (query start) (start .args .c .start) (next .result) (start .args .c .start + lengthOf (start .args .y)) (cleared (c .before .before)) (next .ensures) (c .if3 .taken)
 
 first-over-requires : tie.Need-first-over-requires
 first-over-requires c κs =
