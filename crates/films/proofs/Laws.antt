@@ -25,7 +25,7 @@ use Rattle.films.specs.declared.types.Lookup.the-variants.{Found, Missin
 
 -- ---- the catalogue's places, filled from the front
 
-pub places-none : (f : ℕ → ℕ) → replicate 64 0 ≡ places f 0
+pub places-none : (f : ℕ → ℕ) → replicate maxFilms 0 ≡ places f 0
 unfolding places
 places-none f = refl
 
@@ -64,7 +64,7 @@ own : List ℕ → ℕ → List Question
 own s i = (exceeds s i, filmOrder) ∷ (fewRounds s i, roundCount) ∷ []
 
 own-answer : (s : List ℕ) (i : ℕ) → refusal (own s i) ≡ entryAnswer (leastAt s i) (entryNumber s i) (entryRounds s i)
-unfolding own entryAnswer fewRounds
+unfolding own entryAnswer
 own-answer s i = rw (← exceeds-least s i)
 
 -- a number that is not 0 stands

@@ -6,13 +6,13 @@ use mathlib.Core.List.{List, [], _∷_}
 use native.Mathlib.Omega.{arith}
 use native.Mathlib.Numerals.{add-one}
 use borrow.Author.Tests.{leb-true, eq-eqb, ne-eqb}
-use lib.ListN.{length, set, replicate}
+use lib.ListN.{length, set}
 use lib.Dec.{leb}
 use Rattle.laws.specs.Tests.{right}
 use Rattle.laws.specs.Questions.{refusal}
 use Rattle.limits.specs.Bounds.{maxFilms, maxRounds}
 use Rattle.limits.specs.Refusals.{filmOrder, roundCount}
-use Rattle.films.specs.Questions.{filmsIn, entryNumber, entryRounds, roundsBefore, entryQuestions}
+use Rattle.films.specs.Questions.{filmsIn, entryNumber, entryRounds, roundsBefore, roundsInRange, entryQuestions}
 use Rattle.films.specs.Decode.{offset}
 use Rattle.films.specs.Catalogue.{places, listed, unlisted, entryAnswer, entriesOf}
 use Rattle.films.specs.Accepted.{holds}
@@ -31,23 +31,24 @@ pub record Reading (s : List ℕ) (count : ℕ) (numbers rounds offsets : List �
   pub offsets-are : offsets ≡ places (offset s) i
   pub rest : refusal (entryQuestions s 0 count) ≡ refusal (entryQuestions s i (count - i))
 
-pub reading-none : (s : List ℕ) (count : ℕ) → Reading s count (replicate 64 0) (replicate 64 0) (replicate 64 0) 0 0 0
-reading-none s count = record {
+pub reading-none : (s : List ℕ) (count : ℕ) (r : Catalogue) → r ≡ unlisted 0 → Reading s count (r .numbers) (r .rounds) (r .offsets) 0 0 0
+unfolding unlisted
+reading-none s count r e = record {
   within = omega arith;
   sum = refl;
   bound = omega arith;
   least-is = least-none s;
-  numbers-are = places-none (entryNumber s);
-  rounds-are = places-none (entryRounds s);
-  offsets-are = places-none (offset s);
+  numbers-are = ap (λ c. c .numbers) e ∙ places-none (entryNumber s);
+  rounds-are = ap (λ c. c .rounds) e ∙ places-none (entryRounds s);
+  offsets-are = ap (λ c. c .offsets) e ∙ places-none (offset s);
   rest = let e : count - 0 ≡ count = omega arith in rw e;
 }
 
 -- an entry that passes has few rounds
 answer-few : (least number n v : ℕ) → v ≡ entryAnswer least number n → v ≡ 0 → n ≤ maxRounds
-unfolding entryAnswer
+unfolding entryAnswer roundsInRange
 answer-few least number n v e z =
-    let h = holds ((leb least number, filmOrder) ∷ (leb 1 n && leb n maxRounds, roundCount) ∷ []) (omega arith, (omega arith, tt)) (sym e ∙ z) in
+    let h = holds ((leb least number, filmOrder) ∷ (roundsInRange n, roundCount) ∷ []) (omega arith, (omega arith, tt)) (sym e ∙ z) in
     leb-true _ _ (right (leb 1 n) (h .1 .0))
 
 module _ (s : List ℕ) (count : ℕ) (numbers rounds offsets : List ℕ) (least total i : ℕ)

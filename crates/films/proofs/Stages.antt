@@ -10,7 +10,7 @@ use lib.Dec.{leb, eqb}
 use Rattle.laws.specs.Tests.{left, right}
 use Rattle.laws.specs.Questions.{refusal}
 use Rattle.limits.specs.Bounds.{maxFilms, maxRounds}
-use Rattle.films.specs.Questions.{filmsIn, entryRounds, roundsBefore, countAt, headQuestions, fewRounds, entryQuestions, sizeQuestions, fileQuestions, verdict}
+use Rattle.films.specs.Questions.{filmsIn, entryRounds, roundsBefore, countAt, headQuestions, fewRounds, roundsInRange, entryQuestions, sizeQuestions, fileQuestions, verdict}
 use Rattle.films.specs.Catalogue.{listed, unlisted, catalogueOf, entriesOf}
 use Rattle.films.specs.Accepted.{after, holds, head-numbered, entries-numbered, entries-held}
 use Rattle.films.specs.declared.types.Catalogue.{Catalogue}
@@ -35,7 +35,7 @@ headed s e =
 
 -- the sum of the n is within its bound once the entries' questions hold
 rounds-bound : (s : List ℕ) (k : ℕ) → ((i : ℕ) → i < k → fewRounds s i ≡ true) → roundsBefore s k ≤ maxRounds * k
-unfolding fewRounds
+unfolding roundsInRange
 rounds-bound s zero f = omega arith
 rounds-bound s (suc k) f =
     let l : entryRounds s k ≤ maxRounds = leb-true _ _ (right (leb 1 (entryRounds s k)) (f k (omega arith))) in

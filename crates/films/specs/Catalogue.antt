@@ -1,17 +1,17 @@
 -- The catalogue of a file: what later calls look films up in, without reading the file again.
 use mathlib.Core.Path.{_≡_, refl, sym, ap, _∙_}
-use mathlib.Core.Bool.{Bool, true, false, cond, _&&_}
+use mathlib.Core.Bool.{Bool, true, false, cond}
 use mathlib.Core.List.{List, [], _∷_, _++_}
 use Prim.Native.Nat.{ℕ, _+_, _-_, _<_}
 use native.Mathlib.Omega.{arith}
 use borrow.Author.Tests.{eqb-true}
 use lib.ListN.{length, getD, replicate, List·getD-append}
 use lib.Dec.{leb, eqb}
-use Rattle.limits.specs.Bounds.{maxFilms, maxRounds}
+use Rattle.limits.specs.Bounds.{maxFilms}
 use Rattle.limits.specs.Refusals.{filmOrder, roundCount}
 use Rattle.laws.specs.Questions.{refusal}
 use Rattle.films.specs.Span.{span, length-span, getD-span}
-use Rattle.films.specs.Questions.{verdict, filmsIn, entryNumber, entryRounds, roundsBefore, entryQuestions}
+use Rattle.films.specs.Questions.{verdict, filmsIn, entryNumber, entryRounds, roundsBefore, roundsInRange, entryQuestions}
 use Rattle.films.specs.Decode.{offset}
 use Rattle.films.specs.declared.types.Catalogue.{Catalogue}
 use Rattle.films.specs.declared.types.Entries.{Entries}
@@ -47,7 +47,7 @@ catalogueOf s = cond (eqb (verdict s) 0) (listed s) (unlisted (verdict s))
 
 -- an entry's two questions; `least` is one more than the number before it, and 0 where there is none
 unfoldable pub entryAnswer : ℕ → ℕ → ℕ → ℕ
-entryAnswer least number n = refusal ((leb least number, filmOrder) ∷ (leb 1 n && leb n maxRounds, roundCount) ∷ [])
+entryAnswer least number n = refusal ((leb least number, filmOrder) ∷ (roundsInRange n, roundCount) ∷ [])
 
 -- the first section, read to its end or to the first "no"
 unfoldable pub entriesOf : List ℕ → Entries

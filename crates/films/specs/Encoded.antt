@@ -18,7 +18,7 @@ use Rattle.films.specs.Layout.{Film, rounds, entries, allSizes, sizeByte
 use Rattle.films.specs.Sizes.{size, sizes}
 use Rattle.films.specs.SizeLaws.{sizes-cut}
 use Rattle.films.specs.Span.{span}
-use Rattle.films.specs.Questions.{half, word, filmsIn, entryNumber, entryRounds, roundsBefore, countAt, sizesIn, sizesAt, exceeds, fewRounds, smallSizes}
+use Rattle.films.specs.Questions.{half, word, filmsIn, entryNumber, entryRounds, roundsBefore, countAt, sizesIn, sizesAt, exceeds, fewRounds, roundsInRange, smallSizes}
 use Rattle.films.specs.Decode.{offset, filmAt, filmsOf}
 use Rattle.films.specs.Accepted.{Accepted, Passes}
 
@@ -124,7 +124,7 @@ matches-sum s (f ∷ fs) i m =
     omega (arith, matches-sum s fs (suc i) (m .1), ap (roundsBefore s) c, m .0 .1)
 
 passes-one : (s : List ℕ) (f : Film) (i : ℕ) → ValidFilm f → entryRounds s i ≡ rounds f → fewRounds s i ≡ true
-unfolding fewRounds
+unfolding roundsInRange
 passes-one s f i v e =
     let a : 1 ≤ entryRounds s i = omega (arith, v .some) in
     let b : entryRounds s i ≤ maxRounds = omega (arith, v .few) in

@@ -14,7 +14,7 @@ use Rattle.laws.specs.Tests.{left, right, all-at}
 use Rattle.limits.specs.Bounds.{maxRounds, maxSize}
 use Rattle.films.specs.Sizes.{size, sizes, Stored}
 use Rattle.films.specs.SizeLaws.{length-sizes, getD-sizes}
-use Rattle.films.specs.Questions.{filmsIn, entryRounds, roundsBefore, sizesIn, sizesAt, fewRounds}
+use Rattle.films.specs.Questions.{filmsIn, entryRounds, roundsBefore, sizesIn, sizesAt, fewRounds, roundsInRange}
 use Rattle.films.specs.Decode.{offset}
 use Rattle.films.specs.Accepted.{Accepted}
 
@@ -26,11 +26,11 @@ rounds-rise s i (suc j) h =
 
 -- "each n 1 to 4,096"
 pub rounds-some : (s : List ℕ) → Accepted s → (i : ℕ) → i < filmsIn s → 1 ≤ entryRounds s i
-unfolding fewRounds
+unfolding roundsInRange
 rounds-some s a i h = leb-true _ _ (left (leb 1 (entryRounds s i)) (leb (entryRounds s i) maxRounds) (a .passes i h .1))
 
 pub rounds-few : (s : List ℕ) → Accepted s → (i : ℕ) → i < filmsIn s → entryRounds s i ≤ maxRounds
-unfolding fewRounds
+unfolding roundsInRange
 rounds-few s a i h = leb-true _ _ (right (leb 1 (entryRounds s i)) (a .passes i h .1))
 
 -- entry i's sizes end no later than the file

@@ -64,8 +64,11 @@ exceeds s zero = true
 exceeds s (suc i) = ltb (entryNumber s i) (entryNumber s (suc i))
 
 -- "Is n 1 to 4,096?"
-unfoldable pub fewRounds : List ℕ → ℕ → Bool
-fewRounds s i = leb 1 (entryRounds s i) && leb (entryRounds s i) maxRounds
+unfoldable pub roundsInRange : ℕ → Bool
+roundsInRange n = leb 1 n && leb n maxRounds
+
+abbrev pub fewRounds : List ℕ → ℕ → Bool
+fewRounds s i = roundsInRange (entryRounds s i)
 
 -- "For each entry in order: does its number exceed the one before? 3. Is n 1 to 4,096? 4.", of k entries from entry i on
 abbrev pub entryQuestions : List ℕ → ℕ → ℕ → List Question

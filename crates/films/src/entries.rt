@@ -4,7 +4,7 @@ ghost use Prim.Native.Nat.{_≤_};
 ghost use lib.ListN.{length};
 ghost use Rattle.laws.specs.Questions.{refusal};
 ghost use Rattle.limits.specs.Bounds.{maxFilms};
-ghost use Rattle.films.specs.Questions.{filmsIn, countAt, headQuestions};
+ghost use Rattle.films.specs.Questions.{filmsIn, countAt, headQuestions, roundsInRange};
 ghost use Rattle.films.specs.Catalogue.{unlisted, entryAnswer, entriesOf};
 use crate::types::Catalogue;
 use crate::types::Entries;
@@ -49,17 +49,28 @@ pub fn head(file: &[u8]) -> u32
     0
 }
 
+// Is a round count in range?
+fn few(rounds: u16) -> bool
+    ensures { λ r. ⌜ r ≡ roundsInRange rounds ⌝ }
+{
+    if rounds < 1 {
+        return false;
+    }
+    if MAX_ROUNDS < (rounds as usize) {
+        return false;
+    }
+    true
+}
+
 // One entry's questions; `least` is one more than the number before, and 0 for the first entry.
 fn entry(least: u32, number: u16, rounds: u16) -> u32
     ensures { λ r. ⌜ r ≡ entryAnswer least number rounds ⌝ }
 {
+    let held = few(rounds);
     if (number as u32) < least {
         return FILM_ORDER;
     }
-    if rounds < 1 {
-        return ROUND_COUNT;
-    }
-    if MAX_ROUNDS < (rounds as usize) {
+    if !held {
         return ROUND_COUNT;
     }
     0
@@ -70,9 +81,10 @@ pub fn entries(file: &[u8], count: usize) -> Entries
     requires { ⌜ (count ≡ filmsIn (now file)) × (count ≤ maxFilms) × (countAt (now file) ≤ length (now file)) ⌝ }
     ensures { λ r. ⌜ r ≡ entriesOf (now (file .entry)) ⌝ }
 {
-    let mut numbers = [0u16; MAX_FILMS];
-    let mut rounds = [0u16; MAX_FILMS];
-    let mut offsets = [0u32; MAX_FILMS];
+    let blank = refused(0);
+    let mut numbers = blank.numbers;
+    let mut rounds = blank.rounds;
+    let mut offsets = blank.offsets;
     let mut least: u32 = 0;
     let mut total: usize = 0;
     let mut i = 0;

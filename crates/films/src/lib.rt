@@ -1,7 +1,7 @@
 // The film file: its verdict, the catalogue of its films, lookup, the reader and the summary.
 pub mod catalogue;
-pub mod entries;
+mod entries;
 pub mod lookup;
-pub mod sizes;
+mod sizes;
 pub mod types;
 pub mod words;

@@ -18,7 +18,7 @@ fn wide64(x: u8) -> u64
 }
 
 // The 16 bits at an offset.
-pub fn half_at(file: &[u8], at: usize) -> u16
+pub(crate) fn half_at(file: &[u8], at: usize) -> u16
     requires { ⌜ at + 2 ≤ length (now file) ⌝ }
     ensures { λ r. ⌜ r ≡ half (now (file .entry)) at ⌝ }
 {

@@ -1,6 +1,6 @@
 // The film reader, by value.
 ghost use mathlib.Core.Path.{_≡_};
-ghost use Prim.Native.Nat.{_<_, _^_};
+ghost use Prim.Native.Nat.{_-_, _<_, _^_};
 ghost use lib.ListN.{getD};
 ghost use Rattle.films.specs.Questions.{half};
 ghost use Rattle.reader.specs.Reader.{startOf, stepOf};
@@ -21,6 +21,17 @@ fn half_or_zero(file: &[u8], at: usize) -> u16
     ensures { λ r. ⌜ r ≡ half (now (file .entry)) at ⌝ }
 {
     byte_or_zero(file, at) + 256 * byte_or_zero(file, at + 1)
+}
+
+// How many entries are left at a position, for any position.
+fn entries_left(count: usize, position: usize) -> usize
+    ensures { λ r. ⌜ r ≡ count - position ⌝ }
+{
+    if position < count {
+        count - position
+    } else {
+        0
+    }
 }
 
 // A reader at the first entry of an accepted file; of another it carries the refusal.
@@ -46,7 +57,7 @@ pub fn next(file: &[u8], reader: Reader) -> Step
         };
     }
     let count = half_or_zero(file, 0) as usize;
-    if count <= position {
+    if entries_left(count, position) < 1 {
         return Step {
             entry: Entry::NoMore,
             reader,

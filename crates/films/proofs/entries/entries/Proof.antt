@@ -21,8 +21,14 @@ abbrev μ-loop : tie.MeasureT-loop
 μ-loop file count numbers₀ rounds₀ offsets₀ least₀ total₀ i₀ numbers rounds offsets least total i =
     count - i
 
+refused-requires : tie.Need-refused-requires Inv-loop μ-loop
+refused-requires c κs = search needs
+
 loop-holds : tie.Need-loop-holds Inv-loop μ-loop
-loop-holds c = reading-none (c .before .args .file .now) (c .before .args .count)
+loop-holds c =
+    let a = c .before .before .before .before .before .args in
+    let e = c .before .before .before .refused .ensures in
+    reading-none (a .file .now) (a .count) (c .before .before .before .refused .result) e
 
 mul-half-at : tie.Need-mul-half-at Inv-loop μ-loop
 mul-half-at c = search needs
@@ -45,18 +51,18 @@ half-at-requires-2 c κs = search needs
 entry-requires : tie.Need-entry-requires Inv-loop μ-loop
 entry-requires c κs = search needs
 
-refused-requires : tie.Need-refused-requires Inv-loop μ-loop
-refused-requires c κs = search needs
+refused-requires-2 : tie.Need-refused-requires-2 Inv-loop μ-loop
+refused-requires-2 c κs = search needs
 
 returns : tie.Need-returns Inv-loop μ-loop
 returns c =
-    let a = c .before .before .before .before .before .before .before .before .args in
+    let a = c .before .before .before .before .before .before .before .before .before .before .before .before .args in
     let l = c .before .before .before .before .before .before .loop in
     let e = c .before .before .entry in
     let stop = reading-stops (a .file .now) (a .count) (l .numbers) (l .rounds) (l .offsets) (l .least) (l .total) (l .i) (l .inv) (omega arith)
     (c .before .before .before .before .half-at .result) (c .before .before .before .half-at2 .result) (e .result)
     (c .before .before .before .before .half-at .ensures) (c .before .before .before .half-at2 .ensures) (e .ensures) (c .before .if1 .taken) in
-    let blank = c .refused .ensures in
+    let blank = c .refused2 .ensures in
     rw blank (sym (entries-refused (a .file .now) (a .count) (e .result) (omega arith) stop (c .before .if1 .taken)))
 
 mul-numbers : tie.Need-mul-numbers Inv-loop μ-loop
@@ -112,7 +118,7 @@ loop-less c = search needs
 
 loop-again : tie.Need-loop-again Inv-loop μ-loop
 loop-again c =
-    let a = c .before .before .before .before .before .before .before .args in
+    let a = c .before .before .before .before .before .before .before .before .before .before .before .args in
     let l = c .before .before .before .before .before .loop in
     let e = c .before .entry in
     reading-more (a .file .now) (a .count) (l .numbers) (l .rounds) (l .offsets) (l .least) (l .total) (l .i) (l .inv) (omega arith)
@@ -122,7 +128,7 @@ loop-again c =
 
 returns-2 : tie.Need-returns-2 Inv-loop μ-loop
 returns-2 c =
-    let a = c .before .before .before .args in
+    let a = c .before .before .before .before .before .before .before .args in
     let l = c .before .loop in
     sym (entries-listed (a .file .now) (a .count) (l .numbers) (l .rounds) (l .offsets) (l .least) (l .total) (l .i) (l .inv) (omega arith) (omega arith))
 
@@ -132,6 +138,7 @@ entries-spec =
     (tie.spec
     Inv-loop
     μ-loop
+    refused-requires
     loop-holds
     mul-half-at
     add-half-at
@@ -140,7 +147,7 @@ entries-spec =
     add-half-at-2
     half-at-requires-2
     entry-requires
-    refused-requires
+    refused-requires-2
     returns
     mul-numbers
     array-write-numbers

@@ -15,8 +15,11 @@ half-or-zero-requires c κs = search needs
 cast-count : tie.Need-cast-count
 cast-count c = search needs
 
+entries-left-requires : tie.Need-entries-left-requires
+entries-left-requires c κs = search needs
+
 returns-2 : tie.Need-returns-2
-returns-2 c = sym (step-end (c .before .before .before .before .args .file .now) (c .before .before .before .before .args .reader) (c .before .before .if1 .left) (omega arith))
+returns-2 c = sym (step-end (c .before .before .before .before .before .args .file .now) (c .before .before .before .before .before .args .reader) (c .before .before .before .if1 .left) (omega arith))
 
 mul-half-or-zero : tie.Need-mul-half-or-zero
 mul-half-or-zero c = search needs
@@ -36,13 +39,13 @@ add-half-or-zero-2 c = search needs
 half-or-zero-requires-3 : tie.Need-half-or-zero-requires-3
 half-or-zero-requires-3 c κs = search needs
 
-add-t12 : tie.Need-add-t12
-add-t12 c = search needs
+add-t11 : tie.Need-add-t11
+add-t11 c = search needs
 
 returns-3 : tie.Need-returns-3
 returns-3 c =
-    let a = c .before .before .before .before .before .before .args in
-    rw (c .before .half-or-zero2 .ensures, c .half-or-zero3 .ensures) (sym (step-film (a .file .now) (a .reader) (c .before .before .before .before .if1 .left) (omega arith)))
+    let a = c .before .before .before .before .before .before .before .args in
+    rw (c .before .half-or-zero2 .ensures, c .half-or-zero3 .ensures) (sym (step-film (a .file .now) (a .reader) (c .before .before .before .before .before .if1 .left) (omega arith)))
 
 pub next-spec : {M : Type 1} → statement M
 next-spec =
@@ -51,6 +54,7 @@ next-spec =
     returns
     half-or-zero-requires
     cast-count
+    entries-left-requires
     returns-2
     mul-half-or-zero
     add-half-or-zero
@@ -58,5 +62,5 @@ next-spec =
     mul-half-or-zero-2
     add-half-or-zero-2
     half-or-zero-requires-3
-    add-t12
+    add-t11
     returns-3)
