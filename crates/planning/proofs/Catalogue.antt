@@ -5,7 +5,7 @@ use Prim.Native.Nat.{ℕ}
 use Rattle.films.specs.Questions.{verdict}
 use Rattle.films.specs.Catalogue.{catalogueOf}
 use Rattle.films.specs.declared.types.Catalogue.{Catalogue}
-use Rattle.films.proofs.Stages.{catalogue-verdict}
+use Rattle.films.specs.Catalogue.{catalogue-verdict}
 
 pub holds : (s : List ℕ) (d : Catalogue) → d ≡ catalogueOf s → d .verdict ≡ verdict s
 holds s d e = ap (λ (d : Catalogue). d .verdict) e ∙ catalogue-verdict s
