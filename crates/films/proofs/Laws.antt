@@ -1,23 +1,25 @@
 -- Turns of the loops over the entries and over the sizes. Assumes nothing.
 use Prim.Native.Nat.{ℕ, zero, suc, _+_, _*_, _-_, _<_, _≤_}
 use mathlib.Core.Path.{_≡_, refl, sym, ap, _∙_}
-use mathlib.Core.Bool.{Bool, true, false, _&&_, cond}
+use mathlib.Core.Bool.{Bool, true, false, _&&_}
 use mathlib.Core.List.{List, [], _∷_, _++_}
 use native.Mathlib.Omega.{arith}
 use native.Mathlib.Numerals.{add-one}
 use native.Mathlib.Decide.{decLe}
 use borrow.Author.Tests.{le-leb, lt-leb, eq-eqb, ne-eqb}
-use lib.ListN.{length, getD, set, replicate}
+use lib.ListN.{getD, set, replicate}
 use lib.Seq.{set-at, append-snoc}
 use lib.Dec.{leb, eqb, leb·zero}
-use lib.Bits.{bitOr, bitAnd, or-add-and, and-le-l, and-le-r}
+use lib.Bits.{bitOr, or-add-and, and-le-l, and-le-r}
+use Rattle.laws.specs.Tests.{all}
 use Rattle.laws.specs.Words.{Bytes}
 use Rattle.laws.specs.Questions.{Question, refusal, refusal-stands}
-use Rattle.limits.specs.Bounds.{maxFilms, maxRounds, maxSize}
+use Rattle.limits.specs.Bounds.{maxFilms, maxSize}
 use Rattle.limits.specs.Refusals.{filmOrder, roundCount}
 use Rattle.films.specs.Sizes.{size, sizes}
+use Rattle.films.specs.SizeLaws.{sizes-cut}
 use Rattle.films.specs.Span.{span, length-span, span-more}
-use Rattle.films.specs.Questions.{filmsIn, entryNumber, entryRounds, roundsBefore, exceeds, fewRounds, entryQuestions, smallSizes}
+use Rattle.films.specs.Questions.{entryNumber, entryRounds, exceeds, fewRounds, entryQuestions, smallSizes}
 use Rattle.films.specs.Catalogue.{places, entryAnswer}
 use Rattle.films.specs.Accepted.{after}
 use Rattle.films.specs.Lookup.{seek}
@@ -128,29 +130,61 @@ and-true : (a : Bool) → a && true ≡ a
 and-true true = refl
 and-true false = refl
 
-and-assoc : (a b c : Bool) → a && (b && c) ≡ (a && b) && c
+and-assoc : (a b c : Bool) → (a && b) && c ≡ a && (b && c)
 and-assoc true b c = refl
 and-assoc false b c = refl
 
-pub small-turn : (s : List ℕ) (from n i high : ℕ) → Bytes s → i < n
-    → eqb high 0 && smallSizes s (from + 4 * i) (n - i)
-    ≡ eqb (bitOr high (getD s (from + 4 * i + 3) 0)) 0 && smallSizes s (from + 4 * (i + 1)) (n - (i + 1))
-small-turn s from n i high b h =
-    let z : n - i ≡ suc (n - (i + 1)) = omega arith in
-    let y : from + 4 * (i + 1) ≡ from + 4 * i + 4 = omega arith in
-    rw (z, y, small-byte s (from + 4 * i) b, or-none)
-    (and-assoc (eqb high 0) (eqb (getD s (from + 4 * i + 3) 0) 0) (smallSizes s (from + 4 * i + 4) (n - (i + 1))))
+pub one-small : (s : List ℕ) (at : ℕ) → Bytes s → eqb (getD s (at + 3) 0) 0 ≡ smallSizes s at 1
+one-small s at b = sym (rw (small-byte s at b) (and-true (eqb (getD s (at + 3) 0) 0)))
 
-pub small-none : (s : List ℕ) (from n : ℕ) → smallSizes s from n ≡ eqb 0 0 && smallSizes s (from + 4 * 0) (n - 0)
+pub four-small : (s : List ℕ) (at : ℕ) → Bytes s
+    → eqb (bitOr (bitOr (bitOr (getD s (at + 3) 0) (getD s (at + 7) 0)) (getD s (at + 11) 0)) (getD s (at + 15) 0)) 0 ≡ smallSizes s at 4
+four-small s at b =
+    let e1 : at + 4 + 3 ≡ at + 7 = omega arith in
+    let e2 : at + 4 + 4 + 3 ≡ at + 11 = omega arith in
+    let e3 : at + 4 + 4 + 4 + 3 ≡ at + 15 = omega arith in
+    sym
+    (rw (
+      small-byte s at b,
+      small-byte s (at + 4) b,
+      small-byte s (at + 4 + 4) b,
+      small-byte s (at + 4 + 4 + 4) b,
+      e1,
+      e2,
+      e3,
+    )
+    (simp (or-none, and-assoc, and-true)))
+
+all-join : {A : Type 0} (f : A → Bool) (l m : List A) → all f (l ++ m) ≡ all f l && all f m
+all-join f [] m = refl
+all-join f (x ∷ l) m = ap (λ b. f x && b) (all-join f l m) ∙ sym (and-assoc (f x) (all f l) (all f m))
+
+-- k sizes in front of the others
+small-cut : (s : List ℕ) (from n i k : ℕ) → i + k ≤ n
+    → smallSizes s (from + 4 * i) (n - i) ≡ smallSizes s (from + 4 * i) k && smallSizes s (from + 4 * (i + k)) (n - (i + k))
+small-cut s from n i k h =
+    let e : n - i ≡ k + (n - (i + k)) = omega arith in
+    let f : from + 4 * i + 4 * k ≡ from + 4 * (i + k) = omega arith in
+    ap (smallSizes s (from + 4 * i)) e
+    ∙ ap (all (λ x. leb x maxSize)) (sizes-cut s (from + 4 * i) k (n - (i + k)))
+    ∙ all-join (λ x. leb x maxSize) (sizes s (from + 4 * i) k) (sizes s (from + 4 * i + 4 * k) (n - (i + k)))
+    ∙ ap (λ at. smallSizes s (from + 4 * i) k && smallSizes s at (n - (i + k))) f
+
+module _ (s : List ℕ) (from n i k : ℕ) (h : i + k ≤ n) where
+  pub small-next : smallSizes s (from + 4 * i) k ≡ true → smallSizes s (from + 4 * i) (n - i) ≡ smallSizes s (from + 4 * (i + k)) (n - (i + k))
+  small-next e = small-cut s from n i k h ∙ ap (λ b. b && smallSizes s (from + 4 * (i + k)) (n - (i + k))) e
+
+  pub small-stop : smallSizes s (from + 4 * i) k ≡ false → smallSizes s (from + 4 * i) (n - i) ≡ false
+  small-stop e = small-cut s from n i k h ∙ ap (λ b. b && smallSizes s (from + 4 * (i + k)) (n - (i + k))) e
+
+pub small-none : (s : List ℕ) (from n : ℕ) → smallSizes s from n ≡ smallSizes s (from + 4 * 0) (n - 0)
 small-none s from n =
     let a : from + 4 * 0 ≡ from = omega arith in
     let b : n - 0 ≡ n = omega arith in
     rw (a, b)
 
-pub small-end : (s : List ℕ) (at n i high : ℕ) → i ≤ n → n ≤ i → eqb high 0 && smallSizes s at (n - i) ≡ eqb high 0
-small-end s at n i high h g =
-    let z : n - i ≡ 0 = omega arith in
-    rw z (and-true (eqb high 0))
+pub small-end : (s : List ℕ) (at n i : ℕ) → n ≤ i → smallSizes s at (n - i) ≡ true
+small-end s at n i h = let z : n - i ≡ 0 = omega arith in rw z
 
 -- ---- the places of a catalogue
 

@@ -1,12 +1,11 @@
 -- The loop over the entries: what is read so far, one entry more, and the end. Assumes nothing.
 use Prim.Native.Nat.{ℕ, suc, _+_, _*_, _-_, _<_, _≤_}
 use mathlib.Core.Path.{_≡_, refl, sym, ap, _∙_}
-use mathlib.Core.Bool.{true, _&&_}
 use mathlib.Core.List.{List, [], _∷_}
 use native.Mathlib.Omega.{arith}
 use native.Mathlib.Numerals.{add-one}
 use borrow.Author.Tests.{leb-true, eq-eqb, ne-eqb}
-use lib.ListN.{length, set}
+use lib.ListN.{set}
 use lib.Dec.{leb}
 use Rattle.laws.specs.Tests.{right}
 use Rattle.laws.specs.Questions.{refusal}
@@ -17,7 +16,6 @@ use Rattle.films.specs.Decode.{offset}
 use Rattle.films.specs.Catalogue.{places, listed, unlisted, entryAnswer, entriesOf}
 use Rattle.films.specs.Accepted.{holds}
 use Rattle.films.specs.declared.types.Catalogue.{Catalogue}
-use Rattle.films.specs.declared.types.Entries.{Entries}
 use Rattle.films.proofs.Laws.{places-none, places-more, leastAt, least-none, least-more, entry-stops, entry-passes}
 
 -- the first i entries are read, and the questions of the others are left

@@ -1,19 +1,18 @@
 -- The catalogue by the first of the file's three groups of questions that says no. Assumes nothing.
 use Prim.Native.Nat.{ℕ, zero, suc, _+_, _*_, _<_, _≤_}
 use mathlib.Core.Path.{_≡_, refl, sym, ap, _∙_}
-use mathlib.Core.Bool.{Bool, true, false, cond, _&&_}
+use mathlib.Core.Bool.{Bool, true, false, cond}
 use mathlib.Core.List.{List, _++_}
 use native.Mathlib.Omega.{arith}
 use borrow.Author.Tests.{leb-true, eq-eqb, ne-eqb, eqb-true, eqb-false}
 use lib.ListN.{length}
 use lib.Dec.{leb, eqb}
-use Rattle.laws.specs.Tests.{left, right}
+use Rattle.laws.specs.Tests.{right}
 use Rattle.laws.specs.Questions.{refusal}
 use Rattle.limits.specs.Bounds.{maxFilms, maxRounds}
 use Rattle.films.specs.Questions.{filmsIn, entryRounds, roundsBefore, countAt, headQuestions, fewRounds, roundsInRange, entryQuestions, sizeQuestions, fileQuestions, verdict}
 use Rattle.films.specs.Catalogue.{listed, unlisted, catalogueOf, entriesOf}
 use Rattle.films.specs.Accepted.{after, holds, head-numbered, entries-numbered, entries-held}
-use Rattle.films.specs.declared.types.Catalogue.{Catalogue}
 use Rattle.films.specs.declared.types.Entries.{Entries}
 use Rattle.films.proofs.Laws.{stands}
 

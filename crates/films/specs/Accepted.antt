@@ -1,18 +1,18 @@
 -- What an accepted file's bytes are, number by number: the questions all hold. Assumes nothing.
 use Prim.Native.Nat.{ℕ, zero, suc, _+_, _*_, _<_, _≤_}
-use mathlib.Core.Path.{_≡_, refl, sym, ap, _∙_}
-use mathlib.Core.Bool.{Bool, true, _&&_}
+use mathlib.Core.Path.{_≡_, refl, _∙_}
+use mathlib.Core.Bool.{true}
 use mathlib.Core.Logic.{⊎-elim}
 use mathlib.Core.List.{List, [], _∷_, _++_}
 use native.Mathlib.Omega.{arith}
 use native.Mathlib.Nat.{eq-or-lt-of-le}
 use borrow.Author.Tests.{leb-true, eqb-true, le-leb, eq-eqb}
 use lib.ListN.{length}
-use lib.Dec.{leb, eqb}
-use Rattle.laws.specs.Tests.{left, right, join}
+use lib.Dec.{leb}
+use Rattle.laws.specs.Tests.{left, right}
 use Rattle.laws.specs.Questions.{Question, refusal, refusal-held}
-use Rattle.limits.specs.Bounds.{maxFilms, maxRounds}
-use Rattle.limits.specs.Refusals.{truncated, filmCount, filmOrder, roundCount, sizeCount, sizeBound, trailing}
+use Rattle.limits.specs.Bounds.{maxFilms}
+use Rattle.limits.specs.Refusals.{filmOrder, roundCount}
 use Rattle.films.specs.Questions.{filmsIn, roundsBefore, countAt, sizesIn, sizesAt, headQuestions, exceeds, fewRounds, entryQuestions, smallSizes, sizeQuestions, fileQuestions, verdict}
 
 -- ---- the first "no", of two lists of questions one after the other

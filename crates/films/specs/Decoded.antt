@@ -1,16 +1,14 @@
 -- An accepted file is of the layout: it is the encoding of its films, and they are valid. Assumes nothing.
-use Prim.Native.Nat.{ℕ, zero, suc, _+_, _*_, _-_, _/_, _%_, _^_, _<_, _≤_}
-use mathlib.Core.Path.{_≡_, refl, sym, ap, _∙_}
-use mathlib.Core.Bool.{true}
+use Prim.Native.Nat.{ℕ, zero, suc, _+_, _*_, _-_, _<_, _≤_}
+use mathlib.Core.Path.{_≡_, sym, ap, _∙_}
 use mathlib.Core.List.{List, [], _∷_, _++_, append-assoc, append-nil}
 use native.Mathlib.Omega.{arith}
 use borrow.Author.Tests.{ltb-true}
 use lib.ListN.{length, getD, drop, drop-of-length-le}
 use lib.Seq.{drop-cons}
 use Rattle.laws.specs.Words.{Bytes, bytes, bytes-number}
-use Rattle.limits.specs.Bounds.{maxSize}
-use Rattle.films.specs.Layout.{Film, rounds, entries, allSizes, sizeBytes, roundSum, encode, Rising, ValidFilm, Each, Valid}
-use Rattle.films.specs.Sizes.{size, sizes}
+use Rattle.films.specs.Layout.{Film, rounds, entries, allSizes, sizeBytes, roundSum, encode, Rising, Each, Valid}
+use Rattle.films.specs.Sizes.{sizes}
 use Rattle.films.specs.SizeLaws.{length-sizes, sizes-cut}
 use Rattle.films.specs.Span.{span, length-span}
 use Rattle.films.specs.Questions.{half, word, filmsIn, entryNumber, entryRounds, roundsBefore, countAt, sizesIn, sizesAt, exceeds}

@@ -2,23 +2,22 @@
 -- offset on. Assumes nothing.
 use Prim.Native.Nat.{ℕ, zero, suc, _+_, _*_, _^_, _<_, _≤_}
 use mathlib.Core.Path.{_≡_, refl, sym, ap, _∙_}
-use mathlib.Core.Bool.{true, _&&_}
+use mathlib.Core.Bool.{true}
 use mathlib.Core.List.{List, [], _∷_, _++_, append-assoc, append-nil}
 use native.Mathlib.Omega.{arith}
 use native.Mathlib.Nat.{eq-or-lt-of-le}
 use mathlib.Core.Logic.{⊎-elim}
 use borrow.Author.Tests.{lt-ltb, le-leb, leb-true}
-use lib.ListN.{length, getD, drop, length-append, length-drop}
-use lib.Seq.{drop-drop, getD-drop, drop-append-seam, getD-append-add}
+use lib.ListN.{length, getD, drop, length-append}
+use lib.Seq.{drop-drop, getD-drop, drop-append-seam}
 use lib.Dec.{leb}
 use Rattle.laws.specs.Tests.{left, right, join, all, all-each, all-append}
 use Rattle.laws.specs.Words.{Bytes, bytes, number, number-bytes, length-bytes, bytes-small}
-use Rattle.limits.specs.Bounds.{maxFilms, maxRounds, maxSize}
+use Rattle.limits.specs.Bounds.{maxRounds, maxSize}
 use Rattle.films.specs.Layout.{Film, rounds, entries, allSizes, sizeBytes, roundSum, encode, Rising, ValidFilm, Each, Valid}
-use Rattle.films.specs.Sizes.{size, sizes}
-use Rattle.films.specs.SizeLaws.{sizes-cut}
+use Rattle.films.specs.Sizes.{sizes}
 use Rattle.films.specs.Span.{span}
-use Rattle.films.specs.Questions.{half, word, filmsIn, entryNumber, entryRounds, roundsBefore, countAt, sizesIn, sizesAt, exceeds, fewRounds, roundsInRange, smallSizes}
+use Rattle.films.specs.Questions.{half, word, filmsIn, entryNumber, entryRounds, roundsBefore, countAt, sizesIn, sizesAt, exceeds, fewRounds, roundsInRange}
 use Rattle.films.specs.Decode.{offset, filmAt, filmsOf}
 use Rattle.films.specs.Accepted.{Accepted, Passes}
 

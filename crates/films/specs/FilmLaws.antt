@@ -1,7 +1,6 @@
 -- The films of an accepted file, one by one: where each one's sizes stand, and that they are within the limits. Assumes nothing.
 use Prim.Native.Nat.{ℕ, zero, suc, _+_, _*_, _<_, _≤_}
-use mathlib.Core.Path.{_≡_, refl, sym, ap, _∙_}
-use mathlib.Core.Bool.{true, _&&_}
+use mathlib.Core.Path.{_≡_}
 use mathlib.Core.Logic.{⊎-elim}
 use mathlib.Core.List.{List}
 use native.Mathlib.Omega.{arith}
@@ -14,7 +13,7 @@ use Rattle.laws.specs.Tests.{left, right, all-at}
 use Rattle.limits.specs.Bounds.{maxRounds, maxSize}
 use Rattle.films.specs.Sizes.{size, sizes, Stored}
 use Rattle.films.specs.SizeLaws.{length-sizes, getD-sizes}
-use Rattle.films.specs.Questions.{filmsIn, entryRounds, roundsBefore, sizesIn, sizesAt, fewRounds, roundsInRange}
+use Rattle.films.specs.Questions.{filmsIn, entryRounds, roundsBefore, sizesIn, sizesAt, roundsInRange}
 use Rattle.films.specs.Decode.{offset}
 use Rattle.films.specs.Accepted.{Accepted}
 

@@ -12,3 +12,4 @@ pub mod FilmLaws
 pub mod Decoded
 pub mod Encoded
 pub mod Theorems
+pub mod Examples

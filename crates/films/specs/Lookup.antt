@@ -2,12 +2,14 @@
 use mathlib.Core.Path.{_≡_, refl, ap}
 use mathlib.Core.Bool.{Bool, true, false, cond}
 use mathlib.Core.List.{List, [], _∷_}
-use Prim.Native.Nat.{ℕ, zero, suc, min, _+_, _<_, _≤_}
+use Prim.Native.Nat.{ℕ, zero, suc, min, _+_, _≤_}
 use native.Mathlib.Omega.{arith}
 use borrow.Author.Tests.{eq-eqb}
 use lib.ListN.{getD}
 use lib.Dec.{eqb}
+use Rattle.laws.specs.Questions.{refusal}
 use Rattle.limits.specs.Bounds.{maxFilms}
+use Rattle.limits.specs.Refusals.{noFilm}
 use Rattle.films.specs.Layout.{Film, inFile, sizesOf}
 use Rattle.films.specs.Sizes.{sizes, Stored}
 use Rattle.films.specs.Span.{span}
@@ -29,6 +31,15 @@ seek numbers rounds offsets k i (suc n) =
 -- of any catalogue: a count above the number of places reaches the last of them
 unfoldable pub lookupIn : Catalogue → ℕ → Lookup
 lookupIn c k = seek (c .numbers) (c .rounds) (c .offsets) k 0 (min (c .count) maxFilms)
+
+-- the paper's number and values of a lookup: "is the film in the file? 8.", where its sizes begin and its n
+abbrev pub lookupRefusal : Lookup → ℕ
+lookupRefusal (Found at n) = 0
+lookupRefusal Missing = noFilm
+
+abbrev pub lookupValues : Lookup → List ℕ
+lookupValues (Found at n) = at ∷ n ∷ []
+lookupValues Missing = []
 
 -- film k is in the file, and its n sizes stand at an offset
 pub record FoundAt (s : List ℕ) (k at n : ℕ) : Type 0 where
@@ -94,3 +105,12 @@ says-found s e k at n q = rw q at (lookup-says s e k)
 
 pub says-missing : (s : List ℕ) → verdict s ≡ 0 → (k : ℕ) → lookupIn (catalogueOf s) k ≡ Missing → inFile (filmsOf s) k ≡ false
 says-missing s e k q = rw q at (lookup-says s e k)
+
+-- the number is that of the question
+pub lookup-number : (s : List ℕ) → verdict s ≡ 0 → (k : ℕ)
+    → lookupRefusal (lookupIn (catalogueOf s) k) ≡ refusal ((inFile (filmsOf s) k, noFilm) ∷ [])
+lookup-number s e k = go (lookupIn (catalogueOf s) k) (lookup-says s e k)
+  where
+    go : (l : Lookup) → Says s k l → lookupRefusal l ≡ refusal ((inFile (filmsOf s) k, noFilm) ∷ [])
+    go (Found at n) f = rw (f .inside)
+    go Missing f = rw f

@@ -5,10 +5,12 @@ use mathlib.Core.Path.{_≡_, refl, sym, ap, _∙_}
 use mathlib.Core.List.{List, [], _∷_}
 use native.Mathlib.Omega.{arith}
 use native.Mathlib.Nat.{mul-suc}
+use mathlib.Core.Bool.{Bool, true, false, cond}
 use lib.ListN.{length, getD}
+use lib.Dec.{eqb}
 use Rattle.laws.specs.Words.{Bytes}
 use Rattle.limits.specs.Bounds.{maxSize}
-use Rattle.films.specs.Layout.{Film, encode, total, ValidFilm, Valid}
+use Rattle.films.specs.Layout.{Film, encode, total, ValidFilm, Each, Valid, sizesOf}
 use Rattle.films.specs.Questions.{verdict}
 use Rattle.films.specs.Decode.{filmsOf}
 use Rattle.films.specs.Accepted.{accepted, acceptance}
@@ -47,6 +49,18 @@ total-bound (x ∷ xs) m h =
 -- a film's total is below 2^36 bytes
 pub film-total : (f : Film) → ValidFilm f → total (f .sizes) < 2 ^ 36
 film-total f v = omega (arith, total-bound (f .sizes) maxSize (v .small), v .few)
+
+-- .. and so is the total of any film of the file, by its number
+pub each-total : (fs : List Film) → Each fs → (k : ℕ) → total (sizesOf fs k) < 2 ^ 36
+each-total [] v k = omega arith
+each-total (f ∷ fs) v k = go (eqb (f .number) k) (film-total f (v .0)) (each-total fs (v .1) k)
+  where
+    go : (b : Bool) → total (f .sizes) < 2 ^ 36 → total (sizesOf fs k) < 2 ^ 36 → total (cond b (f .sizes) (sizesOf fs k)) < 2 ^ 36
+    go true h g = h
+    go false h g = g
+
+pub accepted-total : (s : List ℕ) → Bytes s → verdict s ≡ 0 → (k : ℕ) → total (sizesOf (filmsOf s) k) < 2 ^ 36
+accepted-total s b e k = each-total (filmsOf s) (decoded-valid s (accepted s e) b .each) k
 
 -- an accepted file has at most 1,048,838 bytes
 pub file-length : (s : List ℕ) → Bytes s → verdict s ≡ 0 → length s ≤ 1048838

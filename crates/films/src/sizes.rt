@@ -11,18 +11,51 @@ use limits::refusals::SIZE_COUNT;
 use limits::refusals::TRAILING;
 use limits::refusals::TRUNCATED;
 
-// Is each of n sizes within the bound? A size exceeds it exactly if its fourth byte is not 0, so only that one is read.
+// Is a size within the bound? It exceeds it exactly if its fourth byte is not 0.
+fn one_small(file: &[u8], at: usize) -> bool
+    requires { ⌜ at + 4 ≤ length (now file) ⌝ }
+    ensures { λ r. ⌜ r ≡ smallSizes (now (file .entry)) at 1 ⌝ }
+{
+    file[at + 3] == 0
+}
+
+// Are four sizes?
+fn four_small(file: &[u8], at: usize) -> bool
+    requires { ⌜ at + 16 ≤ length (now file) ⌝ }
+    ensures { λ r. ⌜ r ≡ smallSizes (now (file .entry)) at 4 ⌝ }
+{
+    let high = file[at + 3] | file[at + 7] | file[at + 11] | file[at + 15];
+    high == 0
+}
+
+// Are n sizes?
+fn few_small(file: &[u8], from: usize, n: usize) -> bool
+    requires { ⌜ from + 4 * n ≤ length (now file) ⌝ }
+    ensures { λ r. ⌜ r ≡ smallSizes (now (file .entry)) from n ⌝ }
+{
+    let mut i = 0;
+    while i < n {
+        if !one_small(file, from + 4 * i) {
+            return false;
+        }
+        i += 1;
+    }
+    true
+}
+
+// Are n sizes, of which there may be many? Four a turn, which halves the time.
 fn small(file: &[u8], from: usize, n: usize) -> bool
     requires { ⌜ from + 4 * n ≤ length (now file) ⌝ }
     ensures { λ r. ⌜ r ≡ smallSizes (now (file .entry)) from n ⌝ }
 {
-    let mut high: u8 = 0;
     let mut i = 0;
-    while i < n {
-        high = high | file[from + 4 * i + 3];
-        i += 1;
+    while i + 4 <= n {
+        if !four_small(file, from + 4 * i) {
+            return false;
+        }
+        i += 4;
     }
-    high == 0
+    few_small(file, from + 4 * i, n - i)
 }
 
 // The questions after the entries, which number `count` and have `total` rounds.

@@ -5,3 +5,4 @@ pub mod Basic
 pub mod Disk
 pub mod Lists
 pub mod StreamLaws
+pub mod BasicLaws

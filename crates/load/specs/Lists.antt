@@ -1,14 +1,14 @@
 -- Laws of tests and of lists that the loops need. Assumes nothing.
 use mathlib.Core.Path.{_≡_, refl, sym, ap, _∙_}
-use mathlib.Core.Bool.{Bool, true, false, not, _&&_, _||_}
+use mathlib.Core.Bool.{Bool, true, false}
 use mathlib.Core.List.{List, [], _∷_, _++_, map, map-append, append-assoc}
-use Prim.Native.Nat.{ℕ, zero, suc, _+_, _-_, _≤_, _<_, min}
+use Prim.Native.Nat.{ℕ, zero, suc, _+_, _-_, _≤_, _<_}
 use native.Mathlib.Omega.{arith}
 use native.Mathlib.Numerals.{add-one}
-use lib.Dec.{leb, ltb, eqb}
-use lib.ListN.{length, getD, set, take, drop, replicate, length-append, length-take, length-map, length-replicate, List·getD-map}
-use lib.Seq.{slice, slice-cons, slice-empty, take-suc, take-at, set-at, getD-take, length-take-le}
-use borrow.Author.Tests.{lt-ltb, le-ltb, le-leb, lt-leb, ltb-true, ltb-false, leb-true, leb-false}
+use lib.Dec.{leb, ltb}
+use lib.ListN.{length, getD, set, take, replicate, length-append, length-map, length-replicate}
+use lib.Seq.{slice, slice-cons, slice-empty, take-suc, take-at, set-at, length-take-le}
+use borrow.Author.Tests.{lt-ltb, le-leb, ltb-true, ltb-false, leb-true, leb-false}
 use Rattle.laws.specs.Tests.{all}
 
 -- ---- tests that say the same
@@ -78,3 +78,8 @@ module _ {A B : Type 0} (f : A → B) (l : List A) (n : ℕ) (e : B) where
 
   pub take-filled : (i : ℕ) → i ≤ length l → take i (filled f l i n e) ≡ map f (take i l)
   take-filled i h = take-at (map f (take i l)) (replicate (n - i) e) i (length-map (take i l) f ∙ length-take-le i l h)
+
+pub map-at : {A B : Type 0} (f : A → B) (l : List A) (i : ℕ) (d : A) (e : B) → i < length l → getD (map f l) i e ≡ f (getD l i d)
+map-at f [] i d e h = absurd (omega arith)
+map-at f (a ∷ l) zero d e h = refl
+map-at f (a ∷ l) (suc i) d e h = map-at f l i d e (omega arith)

@@ -1,7 +1,7 @@
 -- The answers of a call by the facts that the code's tests leave. Assumes nothing.
-use mathlib.Core.Path.{_≡_, refl, sym, ap, _∙_}
+use mathlib.Core.Path.{_≡_, sym, _∙_}
 use mathlib.Core.Bool.{Bool, true, false, not}
-use mathlib.Core.List.{List, [], _∷_, _++_}
+use mathlib.Core.List.{List, _++_}
 use Prim.Native.Nat.{ℕ, zero, suc, _+_, _≤_, _<_}
 use native.Mathlib.Omega.{arith}
 use borrow.Author.Tests.{le-leb, lt-leb, not-true, not-false}
@@ -9,12 +9,11 @@ use lib.ListN.{length, drop}
 use Rattle.laws.specs.Questions.{refusal}
 use Rattle.limits.specs.Bounds.{maxPrefetch, maxReserve}
 use Rattle.limits.specs.Refusals.{prefetchBound, reserveBound, noRoom, noSchedule, capBound}
-use Rattle.planning.specs.declared.schedules.Scheduled.{Scheduled}
 use Rattle.planning.specs.declared.schedules.Scheduled.the-variants.{Refused, Written}
 use Rattle.planning.specs.declared.reserves.Reserve.the-variants as reserve-as
 use Rattle.retrieval.specs.Schedule.{sends, largest}
 use Rattle.retrieval.specs.JustInTime.{existsBy}
-use Rattle.planning.specs.Answers.{planQuestions, planTotals, scheduledBy, writtenBy, Planned, reserveBy, capQuestions}
+use Rattle.planning.specs.Answers.{planQuestions, planTotals, Planned, reserveBy, capQuestions}
 
 -- ---- a schedule's questions
 

@@ -41,6 +41,11 @@ abbrev pub scheduledBy : ℕ → List ℕ → Scheduled
 scheduledBy zero totals = scheduled-as.Written (length totals)
 scheduledBy (suc k) totals = scheduled-as.Refused (suc k)
 
+-- the number of an answer, 0 if it is none
+abbrev pub scheduledNumber : Scheduled → ℕ
+scheduledNumber (scheduled-as.Refused k) = k
+scheduledNumber (scheduled-as.Written m) = 0
+
 -- the lent list afterwards: the totals, and "places from p+n on are untouched"; "a refusal .. changes nothing lent"
 abbrev pub writtenBy : ℕ → List ℕ → List ℕ → List ℕ
 writtenBy zero totals out = totals ++ drop (length totals) out
@@ -78,6 +83,11 @@ reserveQuestions s film p cap = file s ∷ (inFile (filmsOf s) film, noFilm) ∷
 abbrev pub reserveBy : ℕ → ℕ → Reserve
 reserveBy zero b = reserve-as.Bytes b
 reserveBy (suc k) b = reserve-as.Refused (suc k)
+
+-- the number of an answer, 0 if it is none
+abbrev pub reserveNumber : Reserve → ℕ
+reserveNumber (reserve-as.Refused k) = k
+reserveNumber (reserve-as.Bytes b) = 0
 
 -- the answer of a call
 unfoldable pub reserved : List ℕ → ℕ → ℕ → ℕ → Reserve

@@ -14,8 +14,8 @@ use Rattle.films.specs.Layout.{inFile, sizesOf}
 use Rattle.films.specs.Sizes.{sizes}
 use Rattle.films.specs.Decode.{filmsOf}
 use Rattle.films.specs.Questions.{verdict, file}
-use Rattle.films.specs.Catalogue.{catalogueOf}
-use Rattle.films.specs.Lookup.{lookupIn, Says, FoundAt, lookup-says}
+use Rattle.films.specs.Catalogue.{catalogueOf, catalogue-verdict}
+use Rattle.films.specs.Lookup.{lookupIn, FoundAt, says-found, says-missing}
 use Rattle.films.specs.declared.types.Catalogue.{Catalogue}
 use Rattle.films.specs.declared.types.Lookup.{Lookup}
 use Rattle.films.specs.declared.types.Lookup.the-variants.{Found, Missing}
@@ -26,22 +26,25 @@ use Rattle.planning.specs.declared.reserves.Reserve.the-variants as rese
 use Rattle.retrieval.specs.Schedule.{sends, largest}
 use Rattle.retrieval.specs.LeastReserve.{Least, leastReserve}
 use Rattle.retrieval.specs.ReserveLaws.{leastReserve-least}
-use Rattle.planning.specs.Answers.{scheduleQuestions, scheduled, scheduleOut, scheduledBy, writtenBy, Planned, capQuestions, reserveQuestions, reserveBy, reserved}
+use Rattle.planning.specs.Answers.{scheduleQuestions, scheduled, scheduleOut, scheduledBy, scheduledNumber, planTotals, Planned, capQuestions, reserveQuestions, reserveBy, reserveNumber, reserved}
 
--- ---- a lookup in an accepted file's catalogue
+-- ---- a catalogue d and a lookup l in it, as the code has them
 
-lookup-is : (s : List ℕ) (k : ℕ) (c : Catalogue) (l : Lookup) → verdict s ≡ 0 → c ≡ catalogueOf s → l ≡ lookupIn c k → Says s k l
-lookup-is s k c l v ec el =
-    let e : l ≡ lookupIn (catalogueOf s) k = el ∙ ap (λ d. lookupIn d k) ec in
-    rw e (lookup-says s v k)
+-- the catalogue holds the verdict
+pub made-verdict : (s : List ℕ) (d : Catalogue) → d ≡ catalogueOf s → d .verdict ≡ verdict s
+made-verdict s d e = ap (λ (d : Catalogue). d .verdict) e ∙ catalogue-verdict s
 
-pub lookup-found : (s : List ℕ) (k at n : ℕ) (c : Catalogue) (l : Lookup) → verdict s ≡ 0 → c ≡ catalogueOf s → l ≡ lookupIn c k
+pub made-accepted : (s : List ℕ) (d : Catalogue) → d ≡ catalogueOf s → d .verdict ≡ 0 → verdict s ≡ 0
+made-accepted s d e z = sym (made-verdict s d e) ∙ z
+
+-- the lookup in an accepted file's says where the film's sizes stand, or that it is not in the file
+pub made-found : (s : List ℕ) (k at n : ℕ) (d : Catalogue) (l : Lookup) → verdict s ≡ 0 → d ≡ catalogueOf s → l ≡ lookupIn d k
     → l ≡ Found at n → FoundAt s k at n
-lookup-found s k at n c l v ec el ef = rw ef at (lookup-is s k c l v ec el)
+made-found s k at n d l v ed el ef = says-found s v k at n (ap (λ (c : Catalogue). lookupIn c k) (sym ed) ∙ (sym el ∙ ef))
 
-pub lookup-missing : (s : List ℕ) (k : ℕ) (c : Catalogue) (l : Lookup) → verdict s ≡ 0 → c ≡ catalogueOf s → l ≡ lookupIn c k
+pub made-missing : (s : List ℕ) (k : ℕ) (d : Catalogue) (l : Lookup) → verdict s ≡ 0 → d ≡ catalogueOf s → l ≡ lookupIn d k
     → l ≡ Missing → inFile (filmsOf s) k ≡ false
-lookup-missing s k c l v ec el em = rw em at (lookup-is s k c l v ec el)
+made-missing s k d l v ed el em = says-missing s v k (ap (λ (c : Catalogue). lookupIn c k) (sym ed) ∙ (sym el ∙ em))
 
 -- ---- a schedule
 
@@ -89,6 +92,26 @@ module _ (s : List ℕ) (film p cap : ℕ) where
       → r ≡ reserved s film p cap
   unfolding reserved reserveQuestions
   reserve-found at n r v f d = rw (eq-eqb (verdict s) 0 v, f .inside, f .are) d
+
+-- ---- numbers and values
+
+-- the number of an answer is that of the first question that says no
+pub scheduled-number : (s : List ℕ) (film p b places : ℕ)
+    → scheduledNumber (scheduled s film p b places) ≡ refusal (scheduleQuestions s film p b places)
+unfolding scheduled
+scheduled-number s film p b places = go (refusal (scheduleQuestions s film p b places)) (planTotals (sizesOf (filmsOf s) film) p b)
+  where
+    go : (q : ℕ) (totals : List ℕ) → scheduledNumber (scheduledBy q totals) ≡ q
+    go zero totals = refl
+    go (suc q) totals = refl
+
+pub reserved-number : (s : List ℕ) (film p cap : ℕ) → reserveNumber (reserved s film p cap) ≡ refusal (reserveQuestions s film p cap)
+unfolding reserved
+reserved-number s film p cap = go (refusal (reserveQuestions s film p cap)) (leastReserve (sends p (sizesOf (filmsOf s) film)) cap)
+  where
+    go : (q m : ℕ) → reserveNumber (reserveBy q m) ≡ q
+    go zero m = refl
+    go (suc q) m = refl
 
 -- where the file's question and those after it all hold, those after it do
 after-file : (s : List ℕ) (qs : List Question) → refusal (file s ∷ qs) ≡ 0 → refusal qs ≡ 0

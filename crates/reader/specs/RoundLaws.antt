@@ -1,16 +1,16 @@
 -- The size of a round by the lookup's answer, and by an accepted file's own catalogue. Assumes nothing.
 use mathlib.Core.Path.{_≡_, refl, sym, ap, _∙_}
 use mathlib.Core.Bool.{Bool, true, false, cond}
-use mathlib.Core.List.{List}
+use mathlib.Core.List.{List, [], _∷_}
 use Prim.Native.Nat.{ℕ, _+_, _*_, _<_, _≤_}
 use native.Mathlib.Omega.{arith}
-use borrow.Author.Tests.{eq-eqb, ne-eqb, lt-ltb, le-ltb, le-leb, ltb-true, ltb-false, eqb-true, eqb-false}
+use borrow.Author.Tests.{eq-eqb, ne-eqb, lt-ltb, le-leb, ltb-true, eqb-true, eqb-false}
 use lib.ListN.{length, getD}
 use lib.Dec.{eqb, ltb}
 use Rattle.laws.specs.Questions.{refusal}
 use Rattle.limits.specs.Refusals.{noFilm}
 use Rattle.films.specs.Layout.{inFile, sizesOf}
-use Rattle.films.specs.Sizes.{size, sizes, Stored}
+use Rattle.films.specs.Sizes.{sizes, Stored}
 use Rattle.films.specs.SizeLaws.{length-sizes, getD-sizes}
 use Rattle.films.specs.Questions.{verdict}
 use Rattle.films.specs.Decode.{filmsOf}
@@ -20,8 +20,7 @@ use Rattle.films.specs.declared.types.Catalogue.{Catalogue}
 use Rattle.films.specs.declared.types.Lookup.{Lookup}
 use Rattle.films.specs.declared.types.Lookup.the-variants.{Found, Missing}
 use Rattle.reader.specs.Summary.{summaryQuestions}
-use Rattle.reader.specs.Rounds.{sizeAt, sizeFound, roundSizeIn, roundSizeOf}
-use Rattle.reader.specs.declared.types.RoundSize.{RoundSize}
+use Rattle.reader.specs.Rounds.{sizeAt, sizeFound, roundSizeIn, roundSizeOf, roundRefusal, roundValues}
 use Rattle.reader.specs.declared.types.RoundSize.the-variants.{Bytes, NoRound, Refused}
 
 -- ---- by any catalogue
@@ -75,3 +74,21 @@ round-size-of s k i = go (eqb (verdict s) 0) refl
     go false q =
         let n = eqb-false _ _ q in
         round-refused s (catalogueOf s) k i (λ e. n (sym (catalogue-verdict s) ∙ e)) ∙ ap Refused (catalogue-verdict s) ∙ sym (of-refused s k i n)
+
+-- the number is that of the first question that says no
+pub round-number : (s : List ℕ) (k i : ℕ) → roundRefusal (roundSizeOf s k i) ≡ refusal (summaryQuestions s k)
+unfolding roundSizeOf
+round-number s k i = go (eqb (refusal (summaryQuestions s k)) 0) (ltb i (length (sizesOf (filmsOf s) k))) refl
+  where
+    go : (b d : Bool) → eqb (refusal (summaryQuestions s k)) 0 ≡ b
+        → roundRefusal (cond b (cond d (Bytes (getD (sizesOf (filmsOf s) k) i 0)) NoRound) (Refused (refusal (summaryQuestions s k))))
+        ≡ refusal (summaryQuestions s k)
+    go true true e = sym (eqb-true _ _ e)
+    go true false e = sym (eqb-true _ _ e)
+    go false d e = refl
+
+-- the value is the round's size
+pub round-values : (s : List ℕ) (k i : ℕ) → refusal (summaryQuestions s k) ≡ 0 → i < length (sizesOf (filmsOf s) k)
+    → roundValues (roundSizeOf s k i) ≡ getD (sizesOf (filmsOf s) k) i 0 ∷ []
+unfolding roundSizeOf
+round-values s k i e h = rw (eq-eqb _ _ e, lt-ltb _ _ h)

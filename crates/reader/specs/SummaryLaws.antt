@@ -1,11 +1,11 @@
 -- A summary by the questions' answers; the paper's number and values of it. Assumes nothing.
-use mathlib.Core.Path.{_≡_, refl, sym, ap, _∙_}
+use mathlib.Core.Path.{_≡_, refl, sym}
 use mathlib.Core.Bool.{Bool, true, false, cond}
 use mathlib.Core.List.{List, [], _∷_}
-use Prim.Native.Nat.{ℕ, zero, suc, _+_, _*_, _-_, _<_, _≤_, max}
+use Prim.Native.Nat.{ℕ, suc, _+_, _*_, _-_, _<_, _≤_, max}
 use native.Mathlib.Omega.{arith}
 use borrow.Author.Tests.{eq-eqb, ne-eqb, eqb-true}
-use lib.ListN.{length, getD}
+use lib.ListN.{length}
 use lib.Dec.{eqb}
 use Rattle.laws.specs.Questions.{refusal}
 use Rattle.limits.specs.Bounds.{maxSize}
@@ -16,7 +16,6 @@ use Rattle.films.specs.SizeLaws.{getD-sizes, length-sizes}
 use Rattle.films.specs.Questions.{verdict}
 use Rattle.films.specs.Decode.{filmsOf}
 use Rattle.reader.specs.Summary.{largest, mean, figuresOf, summaryQuestions, summaryOf, summaryRefusal, summaryValues}
-use Rattle.reader.specs.declared.types.Summary.{Summary}
 use Rattle.reader.specs.declared.types.Summary.the-variants.{Figures, Refused}
 
 module _ (s : List ℕ) (k : ℕ) where

@@ -10,7 +10,7 @@ use borrow.Author.Tests.{leb-true, le-leb, eqb-true, eq-eqb}
 use lib.ListN.{length, getD}
 use lib.Dec.{eqb}
 use Rattle.retrieval.specs.Tests.{same-test}
-use Rattle.retrieval.specs.Schedule.{sum, largest, totals, Reads, Schedule, helds}
+use Rattle.retrieval.specs.Schedule.{largest, totals, Reads, Schedule, helds}
 use Rattle.retrieval.specs.JustInTime.{due, justInTime, existsBy}
 use Rattle.retrieval.specs.Carry.{carry, profile}
 use Rattle.retrieval.specs.CarryLaws.{due-carry}

@@ -1,8 +1,8 @@
 -- Reserves that serve a film within a memory cap, and the least of them. Assumes nothing.
 use mathlib.Core.Path.{_≡_, refl, sym, _∙_}
 use mathlib.Core.Logic.{_↔_}
-use mathlib.Core.Bool.{Bool, true, false, _&&_, not, cond, true≢false}
-use mathlib.Core.List.{List, [], _∷_}
+use mathlib.Core.Bool.{Bool, true, false, not, cond, true≢false}
+use mathlib.Core.List.{List}
 use Prim.Native.Nat.{ℕ, zero, suc, _+_, _*_, _≤_, _<_}
 use native.Mathlib.Decide.{decLe}
 use native.Mathlib.Omega.{arith}
@@ -11,7 +11,7 @@ use lib.ListN.{getD}
 use lib.Dec.{leb}
 use Rattle.laws.specs.Tests.{left, right, join}
 use Rattle.retrieval.specs.Tests.{same-test, test-false}
-use Rattle.retrieval.specs.Schedule.{sends, largest, Schedule, helds, peak}
+use Rattle.retrieval.specs.Schedule.{sends, largest, Schedule, peak}
 use Rattle.retrieval.specs.JustInTime.{justInTime, existsBy}
 use Rattle.retrieval.specs.LeastReserve.{Serves, Least, servesBy, leastBy, firstFrom, leastReserve}
 use Rattle.retrieval.specs.Carry.{carry, profile}

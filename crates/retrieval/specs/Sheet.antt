@@ -2,7 +2,7 @@
 -- "each film's profile is added to the part of the list that begins at its start".
 use mathlib.Core.Path.{_≡_}
 use mathlib.Core.List.{List, [], _∷_}
-use Prim.Native.Nat.{ℕ, _+_, _-_, _^_, _≤_, _<_}
+use Prim.Native.Nat.{ℕ, _+_, _^_, _≤_, _<_}
 use lib.ListN.{length, getD, drop}
 use lib.Seq.{slice}
 use Rattle.retrieval.specs.Carry.{carry, profile}

@@ -1,8 +1,8 @@
 -- Laws of lists by round to whose first places another list is laid. Assumes nothing.
 use mathlib.Core.Path.{_≡_, refl, sym, ap, _∙_}
 use mathlib.Core.List.{List, [], _∷_, _++_}
-use Prim.Native.Nat.{ℕ, zero, suc, _+_, _-_, _*_, _≤_, _<_, _^_, max}
-use native.Mathlib.Nat.{not-suc-le-zero, le-of-suc-le-suc, mul-suc, mul-le-mul}
+use Prim.Native.Nat.{ℕ, zero, suc, _+_, _-_, _*_, _≤_, _<_, _^_}
+use native.Mathlib.Nat.{not-suc-le-zero, le-of-suc-le-suc}
 use native.Mathlib.Omega.{arith}
 use lib.ListN.{length, getD, set, take, drop, replicate}
 use lib.Seq.{slice, length-slice, getD-take, getD-drop, take-all}
@@ -11,8 +11,8 @@ use Rattle.films.specs.Sizes.{Stored}
 use Rattle.retrieval.specs.Schedule.{largest}
 use Rattle.retrieval.specs.Carry.{carry, profile}
 use Rattle.retrieval.specs.CarryLaws.{getD-largest}
-use Rattle.retrieval.specs.Stored.{sendsAt, maxHeld, length-sendsAt, length-profile, profile-small, turn-held}
-use Rattle.retrieval.specs.Sheet.{onto, plus, Room, heldIn}
+use Rattle.retrieval.specs.Stored.{sendsAt, InRange, maxHeld, length-sendsAt, length-profile, profile-small, turn-held, drop-all}
+use Rattle.retrieval.specs.Sheet.{onto, plus, Room, heldIn, Adds}
 
 -- ---- by place
 
@@ -29,6 +29,11 @@ length-onto f (x ∷ s) (y ∷ hs) = ap suc (length-onto f s hs)
 
 pub length-plus : (s hs : List ℕ) → length (plus s hs) ≡ length s
 length-plus s hs = length-onto (λ x h. x + h) s hs
+
+pub getD-past : (l : List ℕ) (t : ℕ) → length l ≤ t → getD l t 0 ≡ 0
+getD-past [] t h = refl
+getD-past (x ∷ l) zero h = absurd (not-suc-le-zero h)
+getD-past (x ∷ l) (suc t) h = getD-past l t (le-of-suc-le-suc h)
 
 -- ---- a window of a film's profile
 
@@ -49,6 +54,14 @@ pub heldIn-whole : (s : List ℕ) (at n p b : ℕ) → heldIn s at n p b 0 (p + 
 heldIn-whole s at n p b =
     let xs = sendsAt s at n p in
     slice-whole (profile b xs) (p + n) (omega (arith, length-profile b xs, length-sendsAt s at n p))
+
+-- what the film holds in round a + i, and nothing past the window
+pub heldIn-at : (s : List ℕ) (at n p b a e i : ℕ) → a + i < e
+    → getD (heldIn s at n p b a e) i 0 ≡ getD (profile b (sendsAt s at n p)) (a + i) 0
+heldIn-at s at n p b a e i h = slice-at (profile b (sendsAt s at n p)) a e i h
+
+pub heldIn-out : (s : List ℕ) (at n p b a e i : ℕ) → e ≤ p + n → e ≤ a + i → getD (heldIn s at n p b a e) i 0 ≡ 0
+heldIn-out s at n p b a e i h k = getD-past (heldIn s at n p b a e) i (omega (arith, length-heldIn s at n p b a e h))
 
 -- a turn of a loop from round k to k - 1: what is held there stands at its place of the window
 pub window-held : (s : List ℕ) (at n p b a e k c x : ℕ) → a < k → k ≤ e → e ≤ p + n → c ≡ carry b (drop k (sendsAt s at n p))
@@ -99,6 +112,19 @@ pub largest-more : (k : ℕ) (part s : List ℕ) (at n p b a e : ℕ) → larges
     → largest (plus part (heldIn s at n p b a e)) ≤ maxHeld * (k + 1)
 largest-more k part s at n p b a e l w =
     omega (arith, largest-plus part (heldIn s at n p b a e), heldIn-small s at n p b a e w)
+
+-- a whole film is to be added where a list has p + n places and room
+pub adds-whole : (part s : List ℕ) (at n p b : ℕ) → InRange s at n p b → p + n ≤ length part → Room part (heldIn s at n p b 0 (p + n))
+    → Adds part s at n p b 0 (p + n) 0
+adds-whole part s at n p b r l m =
+    record {
+      film = r;
+      order = omega arith;
+      rounds = omega arith;
+      places = omega arith;
+      carried = sym (drop-all (sendsAt s at n p) (p + n) b (omega (arith, length-sendsAt s at n p)));
+      room = m;
+    }
 
 -- ---- a loop that lays from the last place backward
 

@@ -3,16 +3,17 @@
 use mathlib.Core.Path.{_≡_}
 use mathlib.Core.Logic.{_↔_}
 use mathlib.Core.Bool.{true}
-use mathlib.Core.List.{List, [], _∷_}
-use Prim.Native.Nat.{ℕ, suc, _+_, _-_, _*_, _≤_, _<_, max}
+use mathlib.Core.List.{List, _∷_}
+use Prim.Native.Nat.{ℕ, suc, _-_, _*_, _≤_, _<_, max}
 use native.Mathlib.Omega.{arith}
 use lib.ListN.{length, getD}
-use Rattle.retrieval.specs.Schedule.{sends, largest, totals, Schedule, helds, peak}
+use Rattle.retrieval.specs.Schedule.{sends, largest, totals, Schedule, helds}
 use Rattle.retrieval.specs.JustInTime.{justInTime, existsBy}
-use Rattle.retrieval.specs.LeastReserve.{Least}
+use Rattle.retrieval.specs.LeastReserve.{Least, leastReserve}
 use Rattle.retrieval.specs.CarryLaws.{justInTime-helds, profile-mono}
 use Rattle.retrieval.specs.Minimality.{justInTime-last, justInTime-before, justInTime-schedule, schedule-carry, reads-least, reads-helds, existsBy-iff, exists-paced}
-use Rattle.retrieval.specs.ReserveLaws.{schedule-mono, least-exists, least-unique}
+use Rattle.retrieval.specs.Round.{ruleRound, roundOf, round-rule}
+use Rattle.retrieval.specs.ReserveLaws.{schedule-mono, least-exists, least-unique, leastReserve-least}
 
 -- "in the last round A = C"
 pub last-round : (b x : ℕ) (xs : List ℕ) → getD (justInTime b 0 (x ∷ xs)) (length xs) 0 ≡ getD (totals 0 (x ∷ xs)) (length xs) 0
@@ -46,6 +47,10 @@ pub justInTime-holds-least : (b : ℕ) (xs rs : List ℕ) → Schedule xs b rs �
     → getD (helds 0 xs (justInTime b 0 xs)) t 0 ≤ getD (helds 0 xs rs) t 0
 justInTime-holds-least b xs rs s t h = rw (justInTime-helds b 0 xs) (reads-helds b 0 0 xs rs (omega arith) s t h)
 
+-- what the code computes of a round is the paper's "A(t) - A(t-1), C(t) - C(t-1), A(t) - C(t-1)"
+pub round-is-rule : (b : ℕ) (xs rs : List ℕ) → Schedule xs b rs → (t : ℕ) → t < length xs → roundOf b xs t ≡ ruleRound b xs t
+round-is-rule b xs rs s t h = round-rule b xs t (existsBy-iff b xs .1 (rs, s)) h
+
 -- a larger reserve keeps existence
 pub larger-reserve-exists : (b b′ : ℕ) (xs rs : List ℕ) → b ≤ b′ → Schedule xs b rs → Schedule xs b′ (justInTime b′ 0 xs)
 larger-reserve-exists b b′ xs rs h s = schedule-mono b b′ xs rs h s
@@ -61,6 +66,10 @@ larger-reserve-holds b b′ xs rs h s t l =
 pub least-reserve-exists : (p cap : ℕ) (sizes : List ℕ) → ((b : ℕ) × Least (sends p sizes) cap b) ↔ (largest sizes ≤ cap)
 least-reserve-exists p cap sizes = least-exists p cap sizes
 
--- and no other
+-- no other,
 pub least-reserve-unique : (p cap b b′ : ℕ) (sizes : List ℕ) → Least (sends p sizes) cap b → Least (sends p sizes) cap b′ → b ≡ b′
 least-reserve-unique p cap b b′ sizes l m = least-unique (sends p sizes) cap b b′ l m
+
+-- and it is the number that the answers cite
+pub least-reserve-number : (p cap : ℕ) (sizes : List ℕ) → largest sizes ≤ cap → Least (sends p sizes) cap (leastReserve (sends p sizes) cap)
+least-reserve-number p cap sizes h = leastReserve-least p cap sizes h

@@ -2,16 +2,15 @@
 use mathlib.Core.Path.{_≡_, refl, sym, ap, ap₂, _∙_}
 use mathlib.Core.Bool.{Bool, true, false, _&&_}
 use mathlib.Core.List.{List, [], _∷_, _++_}
-use Prim.Native.Nat.{ℕ, zero, suc, _+_, _-_, _*_, _^_, _≤_, _<_}
-use native.Mathlib.Nat.{not-suc-le-zero, le-of-suc-le-suc, eq-or-lt-of-le}
+use Prim.Native.Nat.{ℕ, zero, suc, _+_, _-_, _*_, _≤_, _<_}
+use native.Mathlib.Nat.{not-suc-le-zero}
 use native.Mathlib.Numerals.{add-one}
 use native.Mathlib.Omega.{arith}
-use mathlib.Core.Logic.{⊎-elim}
 use lib.ListN.{length, getD, set, take, drop, replicate, length-set, length-take}
 use lib.Seq.{take-suc, getD-set-same, getD-set-other, getD-take}
 use lib.Dec.{leb, eqb}
 use borrow.Author.Count.{below-more}
-use borrow.Author.Tests.{le-leb, lt-leb, leb-true, leb-false, eq-eqb, eqb-true, ne-eqb}
+use borrow.Author.Tests.{le-leb, leb-true, leb-false, eq-eqb, ne-eqb}
 use Rattle.limits.specs.Bounds.{maxBookings}
 use Rattle.laws.specs.Tests.{all, below}
 use Rattle.retrieval.specs.Schedule.{largest}
@@ -19,8 +18,8 @@ use Rattle.retrieval.specs.Carry.{carry}
 use Rattle.retrieval.specs.JustInTime.{due, existsBy}
 use Rattle.retrieval.specs.CarryLaws.{due-carry}
 use Rattle.retrieval.specs.Stored.{maxHeld, largest-bound}
-use Rattle.load.specs.Stream.{noStream, sendsOf, endOf, total, holdsIn, heldIn, carryFrom}
-use Rattle.load.specs.Basic.{Playable, Within, EachOf}
+use Rattle.load.specs.Stream.{noStream, sendsOf, total, holdsIn, heldIn, carryFrom}
+use Rattle.load.specs.Basic.{Within, EachOf}
 use Rattle.sheet.specs.Memory.{feasible, memoryKept, Windowed, Added, Fills, Filled}
 use Rattle.sheet.specs.WindowLaws.{carry-late}
 use Rattle.load.specs.declared.stream.Stream.{Stream}

@@ -5,3 +5,4 @@ pub mod Sheet
 pub mod WindowLaws
 pub mod FillLaws
 pub mod SheetLaws
+pub mod LaidLaws

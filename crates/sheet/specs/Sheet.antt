@@ -4,8 +4,8 @@
 use mathlib.Core.Path.{_≡_}
 use mathlib.Core.Bool.{cond}
 use mathlib.Core.List.{List}
-use Prim.Native.Nat.{ℕ, _+_, _*_, _^_, _≤_, _<_}
-use lib.ListN.{length, getD, replicate}
+use Prim.Native.Nat.{ℕ, _+_, _^_, _≤_, _<_}
+use lib.ListN.{length, getD, take, replicate}
 use Rattle.limits.specs.Bounds.{maxBookings, maxReserve}
 use Rattle.retrieval.specs.Schedule.{largest}
 use Rattle.retrieval.specs.Stored.{maxHeld}
@@ -50,3 +50,39 @@ pub record LaidOn (f : List ℕ) (xs : List Stream) (T : ℕ) (opens reserves he
   pub films : opens ≡ perRound (λ t. openCount t xs) 0 T
   pub reserved : reserves ≡ perRound (λ t. reservedIn t xs) 0 T
   pub held : helds ≡ perRound (λ t. heldIn f t xs) 0 T
+
+-- ---- the lent lists, which may be longer than T
+
+-- each has T places
+pub record Places (T : ℕ) (opens reserves helds : List ℕ) : Type 0 where
+  pub opens-places : T ≤ length opens
+  pub reserves-places : T ≤ length reserves
+  pub helds-places : T ≤ length helds
+
+-- the sheet of the first n of xs is to be worked out
+pub record Lays (f : List ℕ) (xs : List Stream) (n T : ℕ) (opens reserves helds : List ℕ) : Type 0 where
+  pub few : n ≤ maxBookings
+  pub streams : EachOf (Playable f) n xs
+  pub within : EachOf (Within T) n xs
+  pub places : Places T opens reserves helds
+
+-- and is
+pub record Laid (f : List ℕ) (xs : List Stream) (T : ℕ) (opens₀ reserves₀ helds₀ opens reserves helds : List ℕ) : Type 0 where
+  pub films : opens ≡ workedOut T (λ t. openCount t xs) opens₀
+  pub reserved : reserves ≡ workedOut T (λ t. reservedIn t xs) reserves₀
+  pub held : helds ≡ workedOut T (λ t. heldIn f t xs) helds₀
+
+-- a stream is to be added to the sheet, whose first T places have room for it
+pub record Raises (f : List ℕ) (x : Stream) (T : ℕ) (opens reserves helds : List ℕ) : Type 0 where
+  pub stream : Playable f x
+  pub within : Within T x
+  pub places : Places T opens reserves helds
+  pub opens-room : Below 1 (take T opens)
+  pub reserves-room : Below maxReserve (take T reserves)
+  pub helds-room : Below maxHeld (take T helds)
+
+-- and is
+pub record Raised (f : List ℕ) (x : Stream) (T : ℕ) (opens₀ reserves₀ helds₀ opens reserves helds : List ℕ) : Type 0 where
+  pub films : opens ≡ workedOut T (λ t. getD opens₀ t 0 + cond (openIn t x) 1 0) opens₀
+  pub reserved : reserves ≡ workedOut T (λ t. getD reserves₀ t 0 + cond (openIn t x) (x .reserve) 0) reserves₀
+  pub held : helds ≡ workedOut T (λ t. getD helds₀ t 0 + holdsIn f t x) helds₀

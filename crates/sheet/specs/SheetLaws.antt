@@ -1,33 +1,33 @@
 -- Laws of the day sheet: streams added one by one are the sums by round. Assumes nothing.
 use mathlib.Core.Path.{_≡_, refl, sym, ap, _∙_}
-use mathlib.Core.Bool.{Bool, true, false, cond}
-use mathlib.Core.List.{List, [], _∷_, _++_}
-use Prim.Native.Nat.{ℕ, zero, suc, _+_, _-_, _*_, _^_, _≤_, _<_}
+use mathlib.Core.Bool.{cond}
+use mathlib.Core.List.{List, [], _∷_}
+use Prim.Native.Nat.{ℕ, zero, suc, _+_, _-_, _*_, _≤_, _<_}
 use native.Mathlib.Decide.{decLe}
 use native.Mathlib.Nat.{not-suc-le-zero, le-of-suc-le-suc}
 use native.Mathlib.Numerals.{add-one}
 use native.Mathlib.Omega.{arith}
-use lib.ListN.{length, getD, set, take, drop, replicate, length-replicate, getD-replicate, List·getD-eq-default}
+use lib.ListN.{length, getD, set, take, replicate, length-replicate, getD-replicate, List·getD-eq-default}
 use lib.Seq.{ext-getD}
 use borrow.Rule.Slice.PartMut.{midOf, putMid}
 use Rattle.laws.specs.Parts.{tail-part, tail-length}
 use Rattle.limits.specs.Bounds.{maxBookings, maxReserve}
 use Rattle.retrieval.specs.Schedule.{largest}
-use Rattle.retrieval.specs.Stored.{maxHeld, InRange, profile-small, drop-all, length-sendsAt}
+use Rattle.retrieval.specs.Stored.{maxHeld, profile-small, drop-all, length-sendsAt}
 use Rattle.retrieval.specs.Sheet.{plus, Adds}
 use Rattle.retrieval.specs.Sheet as retrieval-sheet
 use Rattle.retrieval.specs.SheetLaws.{heldIn-whole, heldIn-small, room-largest, largest-part, largest-zeros}
 use Rattle.model.specs.Calls.{perRound}
 use Rattle.model.specs.PlacesLaws.{length-perRound, perRound-same}
 use Rattle.model.specs.CodeLaws.{perRound-at}
-use Rattle.load.specs.Stream.{noStream, sendsOf, lengthOf, endOf, openIn, profileOf, holdsIn, total, openCount, reservedIn, heldIn}
-use Rattle.load.specs.StreamLaws.{open-early, open-late, open-within, cond-most}
-use Rattle.load.specs.Basic.{Bounded, Playable, Within, EachOf}
+use Rattle.load.specs.Stream.{noStream, sendsOf, lengthOf, endOf, openIn, profileOf, holdsIn, total, heldIn}
+use Rattle.load.specs.StreamLaws.{open-early, open-late, open-within}
+use Rattle.load.specs.Basic.{Playable, Within, EachOf}
 use Rattle.load.specs.declared.stream.Stream.{Stream}
 use Rattle.sheet.specs.Parts.{addAt, share, share-before, share-from, length-addAt, addAt-at, addAt-back, largest-addAt}
 use Rattle.sheet.specs.WindowLaws.{length-profileOf, holds-early, holds-late, holds-within}
 use Rattle.sheet.specs.FillLaws.{total-take}
-use Rattle.sheet.specs.Sheet.{Below, Addable, AddedTo, Lists, LaidOn}
+use Rattle.sheet.specs.Sheet.{Below, Addable, AddedTo, LaidOn}
 
 -- ---- v added to the first places, one by one
 

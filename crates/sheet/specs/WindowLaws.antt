@@ -1,23 +1,22 @@
 -- Laws of a stream in a window, the rounds from w to e - 1. Assumes nothing.
 use mathlib.Core.Path.{_≡_, refl, sym, ap, _∙_}
-use mathlib.Core.Bool.{Bool, true, false, cond, _&&_}
-use mathlib.Core.List.{List, [], _∷_, _++_}
-use Prim.Native.Nat.{ℕ, zero, suc, _+_, _-_, _*_, _^_, _≤_, _<_, min, max}
+use mathlib.Core.Bool.{Bool, true, false, cond}
+use mathlib.Core.List.{List}
+use Prim.Native.Nat.{ℕ, _+_, _-_, _≤_, _<_, min, max}
 use native.Mathlib.Decide.{decLe}
 use native.Mathlib.Omega.{arith}
-use lib.ListN.{length, getD, take, drop, List·getD-eq-default}
+use lib.ListN.{length, getD, drop, List·getD-eq-default}
 use lib.Seq.{slice, length-slice}
 use borrow.Rule.Slice.PartMut.{midOf, putMid}
 use Rattle.laws.specs.Parts.{tail-part, tail-length}
 use Rattle.retrieval.specs.Schedule.{largest}
-use Rattle.retrieval.specs.Carry.{carry, profile}
-use Rattle.retrieval.specs.Stored.{maxHeld, InRange, length-sendsAt, length-profile, drop-all}
-use Rattle.retrieval.specs.Sheet.{plus, Room, Adds}
+use Rattle.retrieval.specs.Carry.{carry}
+use Rattle.retrieval.specs.Stored.{length-sendsAt, length-profile, drop-all}
+use Rattle.retrieval.specs.Sheet.{plus, Adds}
 use Rattle.retrieval.specs.SheetLaws.{slice-at, heldIn-small, room-largest, largest-part}
 use Rattle.load.specs.Stream.{sendsOf, endOf, openIn, profileOf, holdsIn, carryFrom}
 use Rattle.load.specs.StreamLaws.{open-early, open-late, open-within, open-place}
-use Rattle.load.specs.Basic.{Bounded, Playable}
-use Rattle.sheet.specs.Parts.{addAt, share, share-before, share-from, length-addAt, addAt-at, addAt-back, largest-addAt}
+use Rattle.sheet.specs.Parts.{share, share-before, share-from, length-addAt, addAt-at, addAt-back, largest-addAt}
 use Rattle.sheet.specs.Memory.{Windowed, Added}
 use Rattle.load.specs.declared.stream.Stream.{Stream}
 

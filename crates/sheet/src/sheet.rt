@@ -2,15 +2,11 @@
 use limits::bounds::MAX_BOOKINGS;
 use load::stream::Stream;
 ghost use mathlib.Core.Path.{_≡_};
-ghost use Prim.Native.Nat.{_+_, _≤_};
+ghost use Prim.Native.Nat.{_≤_};
 ghost use mathlib.Core.List.{_++_};
 ghost use lib.ListN.{length, take, drop, replicate};
-ghost use Rattle.limits.specs.Bounds.{maxBookings};
 ghost use Rattle.retrieval.specs.Sheet.{plus};
-ghost use Rattle.load.specs.Basic.{Playable, Within, EachOf};
-ghost use Rattle.load.specs.Stream.{openCount, reservedIn, heldIn};
-ghost use Rattle.model.specs.Calls.{perRound, workedOut};
-ghost use Rattle.sheet.specs.Sheet.{Below, Addable, AddedTo, Lists, LaidOn};
+ghost use Rattle.sheet.specs.Sheet.{Below, Addable, AddedTo, Lists, LaidOn, Lays, Laid, Raises, Raised};
 
 // Zeroes the first n places.
 fn clear(list: &mut [u64], n: usize)
@@ -76,4 +72,51 @@ fn lay_on(
         add_to(file, x, opens, reserves, helds);
         i += 1;
     }
+}
+
+// Works the sheet's first T places out from the first `count` streams; what stood there before counts for nothing.
+pub fn lay_sheet(
+    file: &[u8],
+    xs: [Stream; MAX_BOOKINGS],
+    count: usize,
+    day_rounds: usize,
+    opens: &mut [u64],
+    reserves: &mut [u64],
+    helds: &mut [u64],
+)
+    requires { ⌜ Lays (now file) xs count «day_rounds» (now opens) (now reserves) (now helds) ⌝ }
+    ensures { λ _. ⌜ Laid (now (file .entry)) (take count xs) «day_rounds» (now (opens .entry)) (now (reserves .entry)) (now (helds .entry)) (now (opens .exit)) (now (reserves .exit)) (now (helds .exit)) ⌝ }
+{
+    clear(opens, day_rounds);
+    clear(reserves, day_rounds);
+    clear(helds, day_rounds);
+    lay_on(
+        file,
+        xs,
+        count,
+        &mut opens[..day_rounds],
+        &mut reserves[..day_rounds],
+        &mut helds[..day_rounds],
+    );
+}
+
+// Adds one more stream to the sheet's first T places.
+pub fn add_stream(
+    file: &[u8],
+    x: Stream,
+    day_rounds: usize,
+    opens: &mut [u64],
+    reserves: &mut [u64],
+    helds: &mut [u64],
+)
+    requires { ⌜ Raises (now file) x «day_rounds» (now opens) (now reserves) (now helds) ⌝ }
+    ensures { λ _. ⌜ Raised (now (file .entry)) x «day_rounds» (now (opens .entry)) (now (reserves .entry)) (now (helds .entry)) (now (opens .exit)) (now (reserves .exit)) (now (helds .exit)) ⌝ }
+{
+    add_to(
+        file,
+        x,
+        &mut opens[..day_rounds],
+        &mut reserves[..day_rounds],
+        &mut helds[..day_rounds],
+    );
 }

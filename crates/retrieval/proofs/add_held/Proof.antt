@@ -1,12 +1,12 @@
 -- `retrieval::add_held` meets its contract. The invariant: what the film holds from its round k on has been added, and left
 -- is the carry of its rounds from k on. The measure is k. Assumes nothing.
-use mathlib.Core.Path.{_≡_, sym, ap, _∙_}
+use mathlib.Core.Path.{_≡_, sym, _∙_}
 use mathlib.Core.List.{List}
 use Prim.Native.Nat.{ℕ, _≤_, _-_, _+_}
 use native.Mathlib.Omega.{arith}
 use borrow.Author.Needs.{needs}
 use lib.ListN.{length, drop, getD, length-set}
-use Rattle.retrieval.specs.Carry.{carry, profile}
+use Rattle.retrieval.specs.Carry.{carry}
 use Rattle.retrieval.specs.Stored.{sendsAt, length-sendsAt, turn-carry}
 use Rattle.retrieval.specs.Sheet.{heldIn}
 use Rattle.retrieval.specs.SheetLaws.{ontoFrom, ontoFrom-none, turn-read, turn-write, length-heldIn, window-held}

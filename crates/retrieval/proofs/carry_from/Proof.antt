@@ -1,10 +1,10 @@
 -- `retrieval::carry_from` meets its contract. The invariant: c is the carry of the rounds from k on. The measure is k.
 -- Assumes nothing.
-use mathlib.Core.Path.{_≡_, sym}
+use mathlib.Core.Path.{_≡_}
 use Prim.Native.Nat.{_≤_, _-_, _+_}
 use native.Mathlib.Omega.{arith}
 use borrow.Author.Needs.{needs}
-use lib.ListN.{length, drop}
+use lib.ListN.{drop}
 use Rattle.retrieval.specs.Carry.{carry}
 use Rattle.retrieval.specs.Stored.{sendsAt, maxHeld, length-sendsAt, drop-all, turn-held, turn-carry, held-bound}
 use Rattle.retrieval.proofs.carry_from.Statement.{statement}

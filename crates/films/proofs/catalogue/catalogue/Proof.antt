@@ -1,16 +1,33 @@
 -- `films::catalogue::catalogue` meets its contract: the first group of questions that says no gives the number, and where none
 -- does the entries' catalogue is the file's. Assumes nothing.
 use mathlib.Core.Path.{_≡_, sym, ap, _∙_}
+use mathlib.Core.List.{List}
+use Prim.Native.Nat.{ℕ}
 use native.Mathlib.Omega.{arith}
-use Rattle.films.specs.Questions.{roundsBefore}
-use Rattle.films.proofs.Stages.{headed, head-no, tail-no, none-no, Whole, whole, part-no}
 use borrow.Author.Needs.{needs}
+use Rattle.laws.specs.Questions.{refusal}
+use Rattle.films.specs.Questions.{roundsBefore, headQuestions}
+use Rattle.films.proofs.Stages.{headed, head-no, tail-no, none-no, Whole, whole, part-no}
 use Rattle.films.proofs.catalogue.catalogue.Statement.{statement}
 use Rattle.films.proofs.catalogue.catalogue.Tie as tie
 
+-- the file's bytes, and that the head's questions hold
+abbrev bytes : tie.After-head → List ℕ
+bytes c = c .before .before .args .file .now
+
+held : (c : tie.Else1) → refusal (headQuestions (bytes (c .before))) ≡ 0
+held c = sym (c .before .head .ensures) ∙ c .if1 .left
+
+-- where the entries have been read
+abbrev past-head : tie.After-entries → tie.Else1
+past-head c = c .before .before
+
+abbrev past-entries : tie.Else2 → tie.After-entries
+past-entries c = c .before .before .before
+
 -- the entries were read whole
-read : (c : tie.Else2) → Whole (c .before .before .before .before .before .before .before .before .args .file .now) (c .before .before .before .entries .result)
-read c = whole (c .before .before .before .before .before .before .before .before .args .file .now) (c .before .before .before .entries .result) (c .before .before .before .entries .ensures) (c .if2 .left)
+read : (c : tie.Else2) → let e = past-entries c in Whole (bytes (past-head e .before)) (e .entries .result)
+read c = let e = past-entries c in whole (bytes (past-head e .before)) (e .entries .result) (e .entries .ensures) (c .if2 .left)
 
 head-requires : tie.Need-head-requires
 head-requires c κs = search needs
@@ -19,41 +36,52 @@ refused-requires : tie.Need-refused-requires
 refused-requires c κs = search needs
 
 returns : tie.Need-returns
-returns c = c .refused .ensures ∙ sym (head-no (c .before .before .before .before .args .file .now) (c .before .before .head .result) (c .before .if1 .taken) (sym (c .before .before .head .ensures)))
+returns c =
+    let h = c .before .before in
+    c .refused .ensures ∙ sym (head-no (bytes h) (h .head .result) (c .before .if1 .taken) (sym (h .head .ensures)))
 
 half-at-requires : tie.Need-half-at-requires
-half-at-requires c κs = let h = headed (c .before .before .before .args .file .now) (sym (c .before .head .ensures) ∙ c .if1 .left) in omega (arith, h .two)
+half-at-requires c κs = omega (arith, headed (bytes (c .before)) (held c) .two)
 
 cast-entries : tie.Need-cast-entries
 cast-entries c = search needs
 
 entries-requires : tie.Need-entries-requires
 entries-requires c κs =
-    let h = headed (c .before .before .before .before .args .file .now) (sym (c .before .before .head .ensures) ∙ c .before .if1 .left) in
+    let h = headed (bytes (c .before .before)) (held (c .before)) in
     (c .half-at .ensures, omega (arith, h .few), h .there)
 
 returns-2 : tie.Need-returns-2
 returns-2 c =
-    part-no (c .before .before .before .before .before .before .before .before .args .file .now) (c .before .before .before .entries .result) (sym (c .before .before .before .before .before .before .head .ensures) ∙ c .before .before .before .before .before .if1 .left) (c .before .before .before .entries .ensures) (c .if2 .taken)
+    let e = c .before .before .before in
+    let h = past-head e in
+    part-no (bytes (h .before)) (e .entries .result) (held h) (e .entries .ensures) (c .if2 .taken)
 
 tail-requires : tie.Need-tail-requires
 tail-requires c κs =
+    let p = past-head (past-entries c) in
+    let s = bytes (p .before) in
     let w = read c in
-    let h = headed (c .before .before .before .before .before .before .before .before .args .file .now) (sym (c .before .before .before .before .before .before .head .ensures) ∙ c .before .before .before .before .before .if1 .left) in
-    ((w .count, omega (arith, w .count, h .few)), (w .total ∙ sym (ap (roundsBefore (c .before .before .before .before .before .before .before .before .args .file .now)) (w .count)), omega (arith, w .bound, w .count)))
+    let h = headed s (held p) in
+    let total = w .total ∙ sym (ap (roundsBefore s) (w .count)) in
+    ((w .count, omega (arith, w .count, h .few)), (total, omega (arith, w .bound, w .count)))
 
 refused-requires-2 : tie.Need-refused-requires-2
 refused-requires-2 c κs = search needs
 
 returns-3 : tie.Need-returns-3
 returns-3 c =
-    c .refused2 .ensures
-    ∙ sym (tail-no (c .before .before .before .before .before .before .before .before .before .before .before .args .file .now) (sym (c .before .before .before .before .before .before .before .before .before .head .ensures) ∙ c .before .before .before .before .before .before .before .before .if1 .left) (read (c .before .before .before) .none) (c .before .before .tail .result) (c .before .before .tail .ensures) (c .before .if3 .taken))
+    let t = c .before .before in
+    let p = past-head (past-entries (t .before)) in
+    let no = tail-no (bytes (p .before)) (held p) (read (t .before) .none) (t .tail .result) (t .tail .ensures) (c .before .if3 .taken) in
+    c .refused2 .ensures ∙ sym no
 
 returns-4 : tie.Need-returns-4
 returns-4 c =
-    read (c .before .before) .listing
-    ∙ sym (none-no (c .before .before .before .before .before .before .before .before .before .before .args .file .now) (sym (c .before .before .before .before .before .before .before .before .head .ensures) ∙ c .before .before .before .before .before .before .before .if1 .left) (read (c .before .before) .none) (c .before .tail .result) (c .before .tail .ensures) (c .if3 .left))
+    let t = c .before in
+    let p = past-head (past-entries (t .before)) in
+    let none = none-no (bytes (p .before)) (held p) (read (t .before) .none) (t .tail .result) (t .tail .ensures) (c .if3 .left) in
+    read (t .before) .listing ∙ sym none
 
 pub catalogue-spec : {M : Type 1} → statement M
 catalogue-spec =

@@ -1,17 +1,12 @@
 -- `films::entries::entries` meets its contract. The invariant: the first i entries stand in the arrays, their questions hold,
 -- and those of the rest are left. The measure is the entries left. Assumes nothing.
 use Prim.Native.Nat.{_+_, _*_, _-_}
-use mathlib.Core.Path.{_≡_, sym, _∙_}
+use mathlib.Core.Path.{sym}
 use native.Mathlib.Omega.{arith}
 use borrow.Author.Needs.{needs}
 use Rattle.films.proofs.Reading.{Reading, reading-none, reading-more, reading-stops, entries-refused, entries-listed}
 use Rattle.films.proofs.entries.entries.Statement.{statement}
 use Rattle.films.proofs.entries.entries.Tie as tie
-use Rattle.films.proofs.entries.entries.Reads as reads
-use Rattle.films.proofs.entries.entries.Lts as lts
-use Rattle.films.proofs.entries.entry.Reads as entry-reads
-use Rattle.films.proofs.entries.refused.Reads as refused-reads
-use Rattle.films.proofs.words.half_at.Reads as half-at-reads
 
 abbrev Inv-loop : tie.InvT-loop
 Inv-loop file count numbers₀ rounds₀ offsets₀ least₀ total₀ i₀ numbers rounds offsets least total i =
@@ -20,6 +15,10 @@ Inv-loop file count numbers₀ rounds₀ offsets₀ least₀ total₀ i₀ numbe
 abbrev μ-loop : tie.MeasureT-loop
 μ-loop file count numbers₀ rounds₀ offsets₀ least₀ total₀ i₀ numbers rounds offsets least total i =
     count - i
+
+-- the function's entry, from the loop's head
+abbrev start : tie.At-loop Inv-loop μ-loop → tie.Start Inv-loop μ-loop
+start c = c .before .before .before .before .before .before
 
 refused-requires : tie.Need-refused-requires Inv-loop μ-loop
 refused-requires c κs = search needs
@@ -56,14 +55,16 @@ refused-requires-2 c κs = search needs
 
 returns : tie.Need-returns Inv-loop μ-loop
 returns c =
-    let a = c .before .before .before .before .before .before .before .before .before .before .before .before .args in
-    let l = c .before .before .before .before .before .before .loop in
-    let e = c .before .before .entry in
-    let stop = reading-stops (a .file .now) (a .count) (l .numbers) (l .rounds) (l .offsets) (l .least) (l .total) (l .i) (l .inv) (omega arith)
-    (c .before .before .before .before .half-at .result) (c .before .before .before .half-at2 .result) (e .result)
-    (c .before .before .before .before .half-at .ensures) (c .before .before .before .half-at2 .ensures) (e .ensures) (c .before .if1 .taken) in
-    let blank = c .refused2 .ensures in
-    rw blank (sym (entries-refused (a .file .now) (a .count) (e .result) (omega arith) stop (c .before .if1 .taken)))
+    let e = c .before .before in
+    let n = e .before in
+    let k = n .before in
+    let l = k .before .before in
+    let s = start l .args in
+    let r = l .loop in
+    let no = c .before .if1 .taken in
+    let stop = reading-stops (s .file .now) (s .count) (r .numbers) (r .rounds) (r .offsets) (r .least) (r .total) (r .i) (r .inv) (omega arith)
+    (k .half-at .result) (n .half-at2 .result) (e .entry .result) (k .half-at .ensures) (n .half-at2 .ensures) (e .entry .ensures) no in
+    rw (c .refused2 .ensures) (sym (entries-refused (s .file .now) (s .count) (e .entry .result) (start l .pre .0) stop no))
 
 mul-numbers : tie.Need-mul-numbers Inv-loop μ-loop
 mul-numbers c = search needs
@@ -118,19 +119,23 @@ loop-less c = search needs
 
 loop-again : tie.Need-loop-again Inv-loop μ-loop
 loop-again c =
-    let a = c .before .before .before .before .before .before .before .before .before .before .before .args in
-    let l = c .before .before .before .before .before .loop in
-    let e = c .before .entry in
-    reading-more (a .file .now) (a .count) (l .numbers) (l .rounds) (l .offsets) (l .least) (l .total) (l .i) (l .inv) (omega arith)
-    (c .before .before .before .half-at .result) (c .before .before .half-at2 .result) (e .result)
-    (c .before .before .before .half-at .ensures) (c .before .before .half-at2 .ensures) (e .ensures) (c .if1 .left) (omega arith)
-    (6 + 4 * a .count + 4 * l .total) (omega arith)
+    let e = c .before in
+    let n = e .before in
+    let k = n .before in
+    let l = k .before .before in
+    let s = start l .args in
+    let r = l .loop in
+    reading-more (s .file .now) (s .count) (r .numbers) (r .rounds) (r .offsets) (r .least) (r .total) (r .i) (r .inv) (omega arith)
+    (k .half-at .result) (n .half-at2 .result) (e .entry .result) (k .half-at .ensures) (n .half-at2 .ensures) (e .entry .ensures) (c .if1 .left)
+    (start l .pre .1) (6 + 4 * s .count + 4 * r .total) (omega (arith, start l .pre))
 
 returns-2 : tie.Need-returns-2 Inv-loop μ-loop
 returns-2 c =
-    let a = c .before .before .before .before .before .before .before .args in
-    let l = c .before .loop in
-    sym (entries-listed (a .file .now) (a .count) (l .numbers) (l .rounds) (l .offsets) (l .least) (l .total) (l .i) (l .inv) (omega arith) (omega arith))
+    let l = c .before in
+    let s = start l .args in
+    let r = l .loop in
+    sym
+    (entries-listed (s .file .now) (s .count) (r .numbers) (r .rounds) (r .offsets) (r .least) (r .total) (r .i) (r .inv) (omega arith) (omega arith))
 
 pub entries-spec : {M : Type 1} → statement M
 entries-spec =

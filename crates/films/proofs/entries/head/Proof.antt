@@ -1,5 +1,5 @@
 -- `films::entries::head` meets its contract: each answer is the first question's that its tests left. Assumes nothing.
-use mathlib.Core.Path.{_≡_, sym}
+use mathlib.Core.Path.{sym}
 use native.Mathlib.Omega.{arith}
 use borrow.Author.Needs.{needs}
 use Rattle.films.proofs.Answers.{head-short, head-empty, head-many, head-cut, head-whole}

@@ -1,7 +1,7 @@
 -- `films::lookup::lookup` meets its contract. The invariant: the answer is that of the places from i on. The measure is the
 -- places left. Assumes nothing.
-use Prim.Native.Nat.{_+_, _-_, _≤_}
-use mathlib.Core.Path.{_≡_, sym, ap, _∙_}
+use Prim.Native.Nat.{_-_, _≤_}
+use mathlib.Core.Path.{_≡_, sym, _∙_}
 use native.Mathlib.Omega.{arith}
 use borrow.Author.Needs.{needs}
 use Rattle.limits.specs.Bounds.{maxFilms}

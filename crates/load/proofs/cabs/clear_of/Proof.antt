@@ -2,11 +2,10 @@
 -- left of them. Assumes nothing.
 use mathlib.Core.Path.{_≡_, sym, _∙_}
 use mathlib.Core.Bool.{not}
-use Prim.Native.Nat.{_+_, _*_, _-_, _≤_}
+use Prim.Native.Nat.{_-_, _≤_}
 use native.Mathlib.Omega.{arith}
 use borrow.Author.Needs.{needs}
 use borrow.Author.Tests.{not-true, not-false}
-use lib.ListN.{take, getD}
 use lib.Seq.{slice}
 use Rattle.laws.specs.Tests.{all}
 use Rattle.load.specs.Stream.{noStream, clashes}

@@ -1,12 +1,11 @@
 -- `load::cabs::pairs_clear` meets its contract. The invariant: the answer is that of the streams from i on. The measure is what
 -- is left of them. Assumes nothing.
 use mathlib.Core.Path.{_≡_, sym, _∙_}
-use mathlib.Core.Bool.{not}
-use Prim.Native.Nat.{_+_, _*_, _-_, _≤_}
+use Prim.Native.Nat.{_-_, _≤_}
 use native.Mathlib.Omega.{arith}
 use borrow.Author.Needs.{needs}
 use borrow.Author.Tests.{not-true, not-false}
-use lib.ListN.{take, getD}
+use lib.ListN.{take}
 use lib.Seq.{slice}
 use Rattle.load.specs.Stream.{noStream, pairsClear}
 use Rattle.load.specs.StreamLaws.{pairs-no, pairs-next, pairs-end}

@@ -1,6 +1,6 @@
 -- `load::disk::demand_in` meets its contract. The invariant: the sums of the streams passed and of those from i on are the whole,
 -- and each stream passed adds at most one film and the largest reserve. The measure is what is left of the streams. Assumes nothing.
-use mathlib.Core.Path.{_≡_, sym, _∙_}
+use mathlib.Core.Path.{_≡_}
 use mathlib.Core.Bool.{cond}
 use Prim.Native.Nat.{_+_, _*_, _-_, _≤_}
 use native.Mathlib.Omega.{arith}

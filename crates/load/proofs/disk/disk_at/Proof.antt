@@ -1,6 +1,5 @@
 -- `load::disk::disk_at` meets its contract. At most 256 reserves and the largest loss fit 64 bits. Assumes nothing.
-use mathlib.Core.Path.{_≡_, ap, _∙_}
-use Prim.Native.Nat.{_+_, _≤_}
+use mathlib.Core.Path.{ap, _∙_}
 use native.Mathlib.Omega.{arith}
 use borrow.Author.Needs.{needs}
 use Rattle.loss.specs.Loss.{lossAt}

@@ -4,7 +4,7 @@ use mathlib.Core.Path.{_≡_, sym, _∙_}
 use Prim.Native.Nat.{_≤_, _-_}
 use native.Mathlib.Omega.{arith}
 use borrow.Author.Needs.{needs}
-use lib.ListN.{length, drop}
+use lib.ListN.{drop}
 use Rattle.films.specs.Sizes.{sizes}
 use Rattle.retrieval.specs.Schedule.{largest}
 use Rattle.retrieval.specs.Stored.{length-sizes, sizes-at, drop-sizes, turn-largest}

@@ -1,6 +1,5 @@
 -- `planning::reserves::least` meets its contract: each return is the first "no" of the questions in their order, and there is
 -- one least reserve. Assumes nothing.
-use mathlib.Core.Path.{_≡_}
 use Prim.Native.Nat.{_≤_}
 use native.Mathlib.Omega.{arith}
 use borrow.Author.Needs.{needs}
@@ -10,7 +9,7 @@ use Rattle.films.specs.Sizes.{sizes}
 use Rattle.retrieval.specs.Schedule.{sends, largest}
 use Rattle.retrieval.specs.LeastReserve.{Serves, leastReserve}
 use Rattle.retrieval.specs.ReserveLaws.{largest-serves, least-unique, leastReserve-least}
-use Rattle.retrieval.specs.Stored.{sendsAt, largest-small}
+use Rattle.retrieval.specs.Stored.{largest-small}
 use Rattle.planning.specs.Answers.{capQuestions}
 use Rattle.planning.specs.AnswerLaws.{cap-prefetch, cap-small, cap-passes, reserve-refused, reserve-bytes}
 use Rattle.planning.proofs.reserves.least.Statement.{statement}

@@ -2,8 +2,7 @@
 -- Assumes nothing.
 use mathlib.Core.Path.{sym, _∙_}
 use borrow.Author.Needs.{needs}
-use Rattle.planning.specs.FileAnswers.{lookup-found, lookup-missing, reserve-file, reserve-missing, reserve-found, reserved-least}
-use Rattle.planning.proofs.Catalogue.{holds, accepted}
+use Rattle.planning.specs.FileAnswers.{made-verdict, made-accepted, made-found, made-missing, reserve-file, reserve-missing, reserve-found, reserved-least}
 use Rattle.planning.proofs.reserves.least_reserve.Statement.{statement}
 use Rattle.planning.proofs.reserves.least_reserve.Tie as tie
 
@@ -15,7 +14,7 @@ returns c =
     let a = c .before .before .before .before .args in
     let s = a .file .now in
     let made = c .before .before .catalogue in
-    let e = reserve-file s (a .film) (a .p) (a .cap) (made .result .verdict) (holds s (made .result) (made .ensures)) (c .if1 .taken) in
+    let e = reserve-file s (a .film) (a .p) (a .cap) (made .result .verdict) (made-verdict s (made .result) (made .ensures)) (c .if1 .taken) in
     (e, λ b d. reserved-least s (a .film) (a .p) (a .cap) b (sym e ∙ d))
 
 lookup-requires : tie.Need-lookup-requires
@@ -31,8 +30,8 @@ least-requires c κs =
     let a = looked .before .before .before .before .before .args in
     let s = a .file .now in
     let found = c .before .found .given in
-    let ok = accepted s (made .result) (made .ensures) (looked .before .if1 .left) in
-    lookup-found s (a .film) (found .0 .0) (found .0 .1 .0) (made .result) (looked .lookup .result) ok (made .ensures) (looked .lookup .ensures) (found .1) .stored
+    let ok = made-accepted s (made .result) (made .ensures) (looked .before .if1 .left) in
+    made-found s (a .film) (found .0 .0) (found .0 .1 .0) (made .result) (looked .lookup .result) ok (made .ensures) (looked .lookup .ensures) (found .1) .stored
 
 enum-told : tie.Need-enum-told
 enum-told c = search needs
@@ -44,8 +43,8 @@ returns-2 c =
     let a = looked .before .before .before .before .before .args in
     let s = a .file .now in
     let found = c .before .before .found .given in
-    let ok = accepted s (made .result) (made .ensures) (looked .before .if1 .left) in
-    let film = lookup-found s (a .film) (found .0 .0) (found .0 .1 .0) (made .result) (looked .lookup .result) ok (made .ensures) (looked .lookup .ensures) (found .1) in
+    let ok = made-accepted s (made .result) (made .ensures) (looked .before .if1 .left) in
+    let film = made-found s (a .film) (found .0 .0) (found .0 .1 .0) (made .result) (looked .lookup .result) ok (made .ensures) (looked .lookup .ensures) (found .1) in
     let e = reserve-found s (a .film) (a .p) (a .cap) (found .0 .0) (found .0 .1 .0) (c .least .result) ok film (c .least .ensures) in
     (e, λ b d. reserved-least s (a .film) (a .p) (a .cap) b (sym e ∙ d))
 
@@ -55,8 +54,8 @@ returns-3 c =
     let made = looked .before .before .before .catalogue in
     let a = looked .before .before .before .before .before .args in
     let s = a .file .now in
-    let ok = accepted s (made .result) (made .ensures) (looked .before .if1 .left) in
-    let none = lookup-missing s (a .film) (made .result) (looked .lookup .result) ok (made .ensures) (looked .lookup .ensures) (c .enum-told .given .1) in
+    let ok = made-accepted s (made .result) (made .ensures) (looked .before .if1 .left) in
+    let none = made-missing s (a .film) (made .result) (looked .lookup .result) ok (made .ensures) (looked .lookup .ensures) (c .enum-told .given .1) in
     let e = reserve-missing s (a .film) (a .p) (a .cap) ok none in
     (e, λ b d. reserved-least s (a .film) (a .p) (a .cap) b (sym e ∙ d))
 

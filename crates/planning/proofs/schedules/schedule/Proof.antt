@@ -1,8 +1,7 @@
 -- `planning::schedules::schedule` meets its contract: the file's questions, the film's, and the rest by `plan`.
 -- Assumes nothing.
 use borrow.Author.Needs.{needs}
-use Rattle.planning.specs.FileAnswers.{lookup-found, lookup-missing, schedule-file, schedule-missing, schedule-found}
-use Rattle.planning.proofs.Catalogue.{holds, accepted}
+use Rattle.planning.specs.FileAnswers.{made-verdict, made-accepted, made-found, made-missing, schedule-file, schedule-missing, schedule-found}
 use Rattle.planning.proofs.schedules.schedule.Statement.{statement}
 use Rattle.planning.proofs.schedules.schedule.Tie as tie
 
@@ -14,7 +13,7 @@ returns c =
     let a = c .before .before .before .before .before .args in
     let s = a .file .now in
     let made = c .before .before .catalogue in
-    schedule-file s (a .film) (a .p) (a .b) (a .out .now) (made .result .verdict) (holds s (made .result) (made .ensures)) (c .if1 .taken)
+    schedule-file s (a .film) (a .p) (a .b) (a .out .now) (made .result .verdict) (made-verdict s (made .result) (made .ensures)) (c .if1 .taken)
 
 lookup-requires : tie.Need-lookup-requires
 lookup-requires c κs = search needs
@@ -29,8 +28,8 @@ plan-requires c κs =
     let a = looked .before .before .before .before .before .before .args in
     let s = a .file .now in
     let found = c .before .before .found .given in
-    let ok = accepted s (made .result) (made .ensures) (looked .before .if1 .left) in
-    lookup-found s (a .film) (found .0 .0) (found .0 .1 .0) (made .result) (looked .lookup .result) ok (made .ensures) (looked .lookup .ensures) (found .1) .stored
+    let ok = made-accepted s (made .result) (made .ensures) (looked .before .if1 .left) in
+    made-found s (a .film) (found .0 .0) (found .0 .1 .0) (made .result) (looked .lookup .result) ok (made .ensures) (looked .lookup .ensures) (found .1) .stored
 
 enum-told : tie.Need-enum-told
 enum-told c = search needs
@@ -46,8 +45,8 @@ returns-2 c =
     let a = looked .before .before .before .before .before .before .args in
     let s = a .file .now in
     let found = c .before .before .before .before .before .found .given in
-    let ok = accepted s (made .result) (made .ensures) (looked .before .if1 .left) in
-    let film = lookup-found s (a .film) (found .0 .0) (found .0 .1 .0) (made .result) (looked .lookup .result) ok (made .ensures) (looked .lookup .ensures) (found .1) in
+    let ok = made-accepted s (made .result) (made .ensures) (looked .before .if1 .left) in
+    let film = made-found s (a .film) (found .0 .0) (found .0 .1 .0) (made .result) (looked .lookup .result) ok (made .ensures) (looked .lookup .ensures) (found .1) in
     schedule-found s (a .film) (a .p) (a .b) (a .out .now) (found .0 .0) (found .0 .1 .0) (planned .result) (planned .last .1 .1 .1 .1 .1 .0) ok film (planned .ensures)
 
 returns-3 : tie.Need-returns-3
@@ -56,8 +55,8 @@ returns-3 c =
     let made = looked .before .before .before .catalogue in
     let a = looked .before .before .before .before .before .before .args in
     let s = a .file .now in
-    let ok = accepted s (made .result) (made .ensures) (looked .before .if1 .left) in
-    let none = lookup-missing s (a .film) (made .result) (looked .lookup .result) ok (made .ensures) (looked .lookup .ensures) (c .enum-told .given .1) in
+    let ok = made-accepted s (made .result) (made .ensures) (looked .before .if1 .left) in
+    let none = made-missing s (a .film) (made .result) (looked .lookup .result) ok (made .ensures) (looked .lookup .ensures) (c .enum-told .given .1) in
     schedule-missing s (a .film) (a .p) (a .b) (a .out .now) ok none
 
 pub schedule-spec : {M : Type 1} → statement M

@@ -1,11 +1,11 @@
 -- `planning::schedules::write_totals` meets its contract. The invariant: the totals are written from place k on, sent is C(k-1),
 -- and the larger of it and due - b is A(k-1). The measure is k. Assumes nothing.
-use mathlib.Core.Path.{_≡_, sym, ap, _∙_}
+use mathlib.Core.Path.{_≡_, sym, _∙_}
 use mathlib.Core.List.{List, _∷_}
 use Prim.Native.Nat.{ℕ, _≤_, _<_, _-_, _+_, max}
 use native.Mathlib.Omega.{arith}
 use borrow.Author.Needs.{needs}
-use lib.ListN.{length, drop, getD, length-set}
+use lib.ListN.{length, getD, length-set}
 use Rattle.films.specs.Sizes.{sizes}
 use Rattle.retrieval.specs.Schedule.{sum, totals}
 use Rattle.retrieval.specs.JustInTime.{justInTime}

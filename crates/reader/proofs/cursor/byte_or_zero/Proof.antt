@@ -1,5 +1,5 @@
 -- `reader::cursor::byte_or_zero` meets its contract: past the end the list has no element. Assumes nothing.
-use mathlib.Core.Path.{_≡_, refl, sym}
+use mathlib.Core.Path.{refl, sym}
 use native.Mathlib.Omega.{arith}
 use lib.ListN.{List·getD-eq-default}
 use borrow.Author.Needs.{needs}

@@ -1,10 +1,14 @@
 -- `reader::cursor::next` meets its contract: one of the three cases of a step. Assumes nothing.
-use mathlib.Core.Path.{_≡_, sym, _∙_}
+use mathlib.Core.Path.{sym}
 use native.Mathlib.Omega.{arith}
 use Rattle.reader.specs.ReaderLaws.{step-refused, step-film, step-end}
 use borrow.Author.Needs.{needs}
 use Rattle.reader.proofs.cursor.next.Statement.{statement}
 use Rattle.reader.proofs.cursor.next.Tie as tie
+
+-- the function's entry, from where the reader carries no refusal
+abbrev start : tie.Else1 → tie.Start
+start c = c .before .before
 
 returns : tie.Need-returns
 returns c = sym (step-refused (c .before .before .args .file .now) (c .before .before .args .reader) (c .if1 .taken))
@@ -19,7 +23,10 @@ entries-left-requires : tie.Need-entries-left-requires
 entries-left-requires c κs = search needs
 
 returns-2 : tie.Need-returns-2
-returns-2 c = sym (step-end (c .before .before .before .before .before .args .file .now) (c .before .before .before .before .before .args .reader) (c .before .before .before .if1 .left) (omega arith))
+returns-2 c =
+    let e = c .before .before .before in
+    let a = start e .args in
+    sym (step-end (a .file .now) (a .reader) (e .if1 .left) (omega arith))
 
 mul-half-or-zero : tie.Need-mul-half-or-zero
 mul-half-or-zero c = search needs
@@ -44,8 +51,10 @@ add-t11 c = search needs
 
 returns-3 : tie.Need-returns-3
 returns-3 c =
-    let a = c .before .before .before .before .before .before .before .args in
-    rw (c .before .half-or-zero2 .ensures, c .half-or-zero3 .ensures) (sym (step-film (a .file .now) (a .reader) (c .before .before .before .before .before .if1 .left) (omega arith)))
+    let n = c .before in
+    let e = n .before .before .before .before in
+    let a = start e .args in
+    rw (n .half-or-zero2 .ensures, c .half-or-zero3 .ensures) (sym (step-film (a .file .now) (a .reader) (e .if1 .left) (omega arith)))
 
 pub next-spec : {M : Type 1} → statement M
 next-spec =

@@ -1,5 +1,4 @@
 -- `reader::cursor::start` meets its contract. Assumes nothing.
-use mathlib.Core.Path.{_≡_}
 use Rattle.reader.specs.Reader.{startOf}
 use borrow.Author.Needs.{needs}
 use Rattle.reader.proofs.cursor.start.Statement.{statement}

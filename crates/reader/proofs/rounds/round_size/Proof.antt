@@ -1,5 +1,5 @@
 -- `reader::rounds::round_size` meets its contract: by the lookup's answer. Assumes nothing.
-use mathlib.Core.Path.{_≡_, sym, _∙_}
+use mathlib.Core.Path.{sym, _∙_}
 use Rattle.reader.specs.RoundLaws.{round-refused, round-by}
 use Rattle.films.specs.declared.types.Lookup.the-variants.{Found, Missing}
 use borrow.Author.Needs.{needs}
@@ -23,9 +23,13 @@ enum-told c = search needs
 
 returns-2 : tie.Need-returns-2
 returns-2 c =
-    let a = c .before .before .before .before .before .before .before .args in
-    let e = sym (c .before .before .before .before .lookup .ensures) ∙ c .before .before .found .given .1 in
-    c .sized .ensures ∙ sym (round-by (a .file .now) (a .c) (a .film) (a .i) (Found (c .before .before .found .given .0 .0) (c .before .before .found .given .0 .1 .0)) (c .before .before .before .before .before .if1 .left) e)
+    let f = c .before .before in
+    let l = f .before .before in
+    let a = l .before .before .before .args in
+    let at = f .found .given .0 .0 in
+    let n = f .found .given .0 .1 .0 in
+    let e = sym (l .lookup .ensures) ∙ f .found .given .1 in
+    c .sized .ensures ∙ sym (round-by (a .file .now) (a .c) (a .film) (a .i) (Found at n) (l .before .if1 .left) e)
 
 returns-3 : tie.Need-returns-3
 returns-3 c =

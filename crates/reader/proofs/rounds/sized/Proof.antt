@@ -1,6 +1,5 @@
 -- `reader::rounds::sized` meets its contract: a round past the film's end or past the file's is none. Assumes nothing.
 use Prim.Native.Nat.{_+_, _*_, _<_, _≤_}
-use mathlib.Core.Path.{_≡_}
 use native.Mathlib.Omega.{arith}
 use borrow.Author.Tests.{lt-ltb, le-ltb, le-leb, lt-leb}
 use lib.ListN.{length}

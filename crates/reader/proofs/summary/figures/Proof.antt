@@ -1,6 +1,6 @@
 -- `reader::summary::figures` meets its contract. The invariant: the total and the largest size are what the first i sizes give,
 -- joined with those of the rest. The measure is the sizes left. Assumes nothing.
-use Prim.Native.Nat.{_+_, _*_, _-_}
+use Prim.Native.Nat.{_-_}
 use native.Mathlib.Omega.{arith}
 use borrow.Author.Needs.{needs}
 use Rattle.reader.specs.SummaryLaws.{Adding, adding-none, adding-small, adding-more, adding-all}

@@ -13,17 +13,25 @@ use Rattle.reader.proofs.summary.summary.Tie as tie
 verdict-is : (c : tie.After-catalogue) → c .catalogue .result .verdict ≡ verdict (c .before .before .args .file .now)
 verdict-is c = ap (λ r. r .verdict) (c .catalogue .ensures) ∙ catalogue-verdict (c .before .before .args .file .now)
 
-accepted : (c : tie.Else1) → verdict (c .before .before .before .args .file .now) ≡ 0
+-- the function's entry, from where the file is accepted
+abbrev start : tie.Else1 → tie.Start
+start c = c .before .before .before
+
+accepted : (c : tie.Else1) → verdict (start c .args .file .now) ≡ 0
 accepted c = sym (verdict-is (c .before)) ∙ c .if1 .left
 
 -- the lookup was in the file's catalogue
-looked : (c : tie.After-lookup) → let a = c .before .before .before .before .args in c .lookup .result ≡ lookupIn (catalogueOf (a .file .now)) (a .film)
-looked c = c .lookup .ensures ∙ ap (λ r. lookupIn r (c .before .before .before .before .args .film)) (c .before .before .catalogue .ensures)
+looked : (c : tie.After-lookup) → let a = start (c .before) .args in c .lookup .result ≡ lookupIn (catalogueOf (a .file .now)) (a .film)
+looked c = let k = c .before .before in c .lookup .ensures ∙ ap (λ r. lookupIn r (start (c .before) .args .film)) (k .catalogue .ensures)
 
-found : (c : tie.After-found) → let a = c .before .before .before .before .before .before .args in FoundAt (a .file .now) (a .film) (c .found .given .0 .0) (c .found .given .0 .1 .0)
+-- .. and found the film
+found : (c : tie.After-found) → let a = start (c .before .before .before) .args in
+    FoundAt (a .file .now) (a .film) (c .found .given .0 .0) (c .found .given .0 .1 .0)
 found c =
-    let a = c .before .before .before .before .before .before .args in
-    says-found (a .file .now) (accepted (c .before .before .before)) (a .film) (c .found .given .0 .0) (c .found .given .0 .1 .0) (sym (looked (c .before .before)) ∙ c .found .given .1)
+    let l = c .before .before in
+    let a = start (l .before) .args in
+    let e = sym (looked l) ∙ c .found .given .1 in
+    says-found (a .file .now) (accepted (l .before)) (a .film) (c .found .given .0 .0) (c .found .given .0 .1 .0) e
 
 catalogue-requires : tie.Need-catalogue-requires
 catalogue-requires c κs = search needs
@@ -48,15 +56,18 @@ enum-told c = search needs
 
 returns-2 : tie.Need-returns-2
 returns-2 c =
-    let a = c .before .before .before .before .before .before .before .before .args in
     let f = found (c .before .before) in
-    c .figures .ensures ∙ ap figuresOf (sym (f .are)) ∙ sym (summary-found (a .file .now) (a .film) (accepted (c .before .before .before .before .before)) (f .inside))
+    let e = c .before .before .before .before .before in
+    let a = start e .args in
+    c .figures .ensures ∙ ap figuresOf (sym (f .are)) ∙ sym (summary-found (a .file .now) (a .film) (accepted e) (f .inside))
 
 returns-3 : tie.Need-returns-3
 returns-3 c =
-    let a = c .before .before .before .before .before .before .args in
-    let e = accepted (c .before .before .before) in
-    sym (summary-missing (a .file .now) (a .film) e (says-missing (a .file .now) e (a .film) (sym (looked (c .before .before)) ∙ c .enum-told .given .1)))
+    let l = c .before .before in
+    let a = start (l .before) .args in
+    let e = accepted (l .before) in
+    let m = says-missing (a .file .now) e (a .film) (sym (looked l) ∙ c .enum-told .given .1) in
+    sym (summary-missing (a .file .now) (a .film) e m)
 
 pub summary-spec : {M : Type 1} → statement M
 summary-spec =

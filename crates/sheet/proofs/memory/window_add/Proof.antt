@@ -1,5 +1,4 @@
 -- `sheet::memory::window_add` meets its contract. The window's part from the stream's first round in it on is lent. Assumes nothing.
-use mathlib.Core.Path.{_≡_}
 use Prim.Native.Nat.{_-_}
 use native.Mathlib.Omega.{arith}
 use borrow.Author.Needs.{needs}

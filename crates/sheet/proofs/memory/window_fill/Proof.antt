@@ -1,6 +1,6 @@
 -- `sheet::memory::window_fill` meets its contract. The invariant: the streams before i were added, and the carries are those from w on of
 -- them and from e on of the others. The measure is what is left of the streams. Assumes nothing.
-use Prim.Native.Nat.{_-_, _≤_}
+use Prim.Native.Nat.{_-_}
 use native.Mathlib.Omega.{arith}
 use borrow.Author.Needs.{needs}
 use Rattle.sheet.specs.FillLaws.{Filling, filling-none, filling-asks, filling-next, filling-all}

@@ -1,11 +1,10 @@
 -- `sheet::sheet::lay_on` meets its contract. The invariant: the lists are the sums of the streams before i. The measure is what is left of the
 -- streams. Assumes nothing.
-use mathlib.Core.Path.{_≡_, ap, _∙_}
-use Prim.Native.Nat.{ℕ, _≤_, _-_}
+use mathlib.Core.Path.{_≡_}
+use Prim.Native.Nat.{_-_}
 use native.Mathlib.Omega.{arith}
 use borrow.Author.Needs.{needs}
-use lib.ListN.{length, take}
-use Rattle.sheet.specs.Sheet.{LaidOn}
+use lib.ListN.{length}
 use Rattle.sheet.specs.SheetLaws.{Laying, laying-none, laying-asks, laying-next}
 use Rattle.sheet.proofs.sheet.lay_on.Statement.{statement}
 use Rattle.sheet.proofs.sheet.lay_on.Tie as tie

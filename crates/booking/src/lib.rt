@@ -1,0 +1,156 @@
+// Booking by value: equal to the model's call, for every input.
+pub mod append;
+pub mod request;
+
+use append::append;
+use append::start_at;
+use films::catalogue::catalogue;
+use films::types::Catalogue;
+use limits::bounds::MAX_BOOKINGS;
+use limits::refusals::NO_START;
+use load::stream::streams_of;
+use model::Answer;
+use model::Booking;
+use model::Day;
+use model::Request;
+use questions::standing::standing_number;
+use request::own_number;
+use request::requested;
+use search::Found;
+use search::first_start;
+use sheet::sheet::add_stream;
+use sheet::sheet::lay_sheet;
+ghost use mathlib.Core.Path.{_≡_};
+ghost use lib.ListN.{length, take};
+ghost use Rattle.laws.specs.Questions.{refusal};
+ghost use Rattle.films.specs.Catalogue.{catalogueOf};
+ghost use Rattle.model.specs.Calls.{bookQuestions, bookCall};
+ghost use Rattle.model.specs.Code.{stateOf};
+ghost use Rattle.model.specs.FirstFit.{AnswersFirst};
+ghost use Rattle.model.specs.Fit.{FitsAt};
+ghost use Rattle.questions.specs.Given.{settingAt};
+ghost use Rattle.booking.specs.Contract.{Leaves, bookAsks};
+
+// What a booking gives: the answer, the day and the list's first 256 places.
+pub struct Outcome {
+    pub answer: Answer,
+    pub day: Day,
+    pub rows: [Booking; MAX_BOOKINGS],
+}
+
+// The number of the first question but 22 that says no; 0 if none does. c is the file's catalogue.
+fn book_number(
+    file: &[u8],
+    c: Catalogue,
+    day: Day,
+    rows: [Booking; MAX_BOOKINGS],
+    places: u64,
+    q: Request,
+    opens: usize,
+    reserves: usize,
+    helds: usize,
+) -> u32
+    requires { ⌜ c ≡ catalogueOf (now file) ⌝ }
+    ensures { λ r. ⌜ r ≡ refusal (bookAsks (now (file .entry)) day rows places q opens reserves helds) ⌝ }
+{
+    let number = standing_number(file, c, day, rows, places, opens, reserves, helds);
+    if number != 0 {
+        return number;
+    }
+    own_number(file, c, day, rows, places, q)
+}
+
+// Places a request whose questions but 22 have passed: the sheet of the standing bookings is laid down, and the first start
+// of the window that fits gets a record and is added to the sheet.
+fn place(
+    file: &[u8],
+    c: Catalogue,
+    day: Day,
+    rows: [Booking; MAX_BOOKINGS],
+    places: u64,
+    q: Request,
+    opens: &mut [u64],
+    reserves: &mut [u64],
+    helds: &mut [u64],
+) -> Outcome
+    requires { ⌜ (c ≡ catalogueOf (now file)) × (refusal (bookAsks (now file) day rows places q (length (now opens)) (length (now reserves)) (length (now helds))) ≡ 0) ⌝ }
+    ensures { λ r. ⌜ Leaves (settingAt (now (file .entry)) day) (bookCall (settingAt (now (file .entry)) day) (stateOf day rows places (now (opens .entry)) (now (reserves .entry)) (now (helds .entry))) q) (r .answer) (r .day) (r .rows) (now (opens .exit)) (now (reserves .exit)) (now (helds .exit)) ⌝ }
+{
+    let count = day.count as usize;
+    let rounds = day.rounds as usize;
+    let xs = streams_of(c, rows, count);
+    lay_sheet(file, xs, count, rounds, opens, reserves, helds);
+    let y = requested(c, q);
+    let found = first_start(
+        file,
+        xs,
+        count,
+        y,
+        day.disk,
+        day.memory,
+        opens,
+        reserves,
+        helds,
+        q.first,
+        q.last,
+    );
+    match found {
+        Found::At(s) => {
+            add_stream(file, start_at(y, s), rounds, opens, reserves, helds);
+            Outcome {
+                answer: Answer::Booked(s),
+                day: Day {
+                    rounds: day.rounds,
+                    disk: day.disk,
+                    memory: day.memory,
+                    now: day.now,
+                    count: day.count + 1,
+                },
+                rows: append(rows, count, q, s),
+            }
+        }
+        Found::Nowhere => Outcome {
+            answer: Answer::Refused(NO_START),
+            day,
+            rows,
+        },
+    }
+}
+
+// Booking: the answer, the day, every record place and every place of the sheet afterwards are the model's, for every input.
+// Where the questions before 22 pass, a booking starts in the first round of its window at which some schedules fit, and is
+// refused 22 exactly when there is none.
+pub fn book(
+    file: &[u8],
+    day: Day,
+    rows: [Booking; MAX_BOOKINGS],
+    places: u64,
+    q: Request,
+    opens: &mut [u64],
+    reserves: &mut [u64],
+    helds: &mut [u64],
+) -> Outcome
+    ensures leaves { λ r. ⌜ Leaves (settingAt (now (file .entry)) day) (bookCall (settingAt (now (file .entry)) day) (stateOf day rows places (now (opens .entry)) (now (reserves .entry)) (now (helds .entry))) q) (r .answer) (r .day) (r .rows) (now (opens .exit)) (now (reserves .exit)) (now (helds .exit)) ⌝ }
+    ensures first { λ r. ⌜ (refusal (bookQuestions (settingAt (now (file .entry)) day) (stateOf day rows places (now (opens .entry)) (now (reserves .entry)) (now (helds .entry))) q) ≡ 0 → AnswersFirst (FitsAt (settingAt (now (file .entry)) day) (take (day .count) rows) q) (q .first) (q .last) (r .answer)) ⌝ }
+{
+    let c = catalogue(file);
+    let number = book_number(
+        file,
+        c,
+        day,
+        rows,
+        places,
+        q,
+        opens.len(),
+        reserves.len(),
+        helds.len(),
+    );
+    if number != 0 {
+        return Outcome {
+            answer: Answer::Refused(number),
+            day,
+            rows,
+        };
+    }
+    place(file, c, day, rows, places, q, opens, reserves, helds)
+}

@@ -1,0 +1,32 @@
+-- The sheet of the bookings that stand. Document 01, 'A day at the desk': "Each accepted booking, drop or opening works the
+-- sheet out from the bookings .. What stood there before counts for nothing. Places from T on are untouched."
+use mathlib.Core.Path.{_≡_}
+use mathlib.Core.Bool.{true}
+use mathlib.Core.List.{List}
+use Prim.Native.Nat.{ℕ, _≤_}
+use Rattle.limits.specs.Bounds.{maxBookings, maxDay}
+use Rattle.films.specs.Questions.{verdict}
+use Rattle.films.specs.Catalogue.{catalogueOf}
+use Rattle.films.specs.declared.types.Catalogue.{Catalogue}
+use Rattle.model.specs.Day.{Setting, opened, reserved, held}
+use Rattle.model.specs.Soundness.{soundList}
+use Rattle.model.specs.Calls.{workedOut}
+use Rattle.model.specs.declared.Booking.{Booking}
+use Rattle.model.specs.declared.Day.{Day}
+use Rattle.sheet.specs.Sheet.{Places}
+use Rattle.questions.specs.Given.{settingAt}
+
+-- bs is a sound list of n bookings on an accepted file, and the sheet has T places
+pub record Stands (f : List ℕ) (c : Catalogue) (day : Day) (bs : List Booking) (n : ℕ) (opens reserves helds : List ℕ) : Type 0 where
+  pub catalogue : c ≡ catalogueOf f
+  pub accepted : verdict f ≡ 0
+  pub rounds : day .rounds ≤ maxDay
+  pub few : n ≤ maxBookings
+  pub sound : soundList (settingAt f day) bs ≡ true
+  pub places : Places (day .rounds) opens reserves helds
+
+-- the sheet is worked out from bs: "films open, sum of reserves, sum of bytes held"
+pub record Worked (S : Setting) (bs : List Booking) (opens₀ reserves₀ helds₀ opens reserves helds : List ℕ) : Type 0 where
+  pub films : opens ≡ workedOut (S .rounds) (λ t. opened S t bs) opens₀
+  pub reserve-sums : reserves ≡ workedOut (S .rounds) (λ t. reserved S t bs) reserves₀
+  pub held-sums : helds ≡ workedOut (S .rounds) (λ t. held S t bs) helds₀

@@ -1,0 +1,80 @@
+// Dropping a booking.
+pub mod removal;
+pub mod standing;
+
+use crate::removal::close_gap;
+use crate::removal::position;
+use crate::standing::lay_standing;
+use films::catalogue::catalogue;
+use limits::bounds::MAX_BOOKINGS;
+use limits::refusals::NO_NAME;
+use model::Answer;
+use model::Booking;
+use model::Day;
+use questions::standing::standing_number;
+ghost use Rattle.model.specs.Code.{stateOf};
+ghost use Rattle.questions.specs.Given.{settingAt};
+ghost use Rattle.dropping.specs.Contract.{Drops};
+
+// What a drop answers, and the day and the records after it.
+pub struct DropOutcome {
+    pub answer: Answer,
+    pub day: Day,
+    pub rows: [Booking; MAX_BOOKINGS],
+}
+
+// Takes the booking of this name out of the list: the gap is closed, the place freed is zeroed, and the sheet is worked out
+// from the rest. Refused, everything stays.
+pub fn drop_booking(
+    file: &[u8],
+    day: Day,
+    rows: [Booking; MAX_BOOKINGS],
+    places: u64,
+    name: u32,
+    opens: &mut [u64],
+    reserves: &mut [u64],
+    helds: &mut [u64],
+) -> DropOutcome
+    ensures { λ r. ⌜ Drops (settingAt (now (file .entry)) day) (stateOf day rows places (now (opens .entry)) (now (reserves .entry)) (now (helds .entry))) name r (now (opens .exit)) (now (reserves .exit)) (now (helds .exit)) ⌝ }
+{
+    let c = catalogue(file);
+    let number = standing_number(
+        file,
+        c,
+        day,
+        rows,
+        places,
+        opens.len(),
+        reserves.len(),
+        helds.len(),
+    );
+    if number != 0 {
+        return DropOutcome {
+            answer: Answer::Refused(number),
+            day,
+            rows,
+        };
+    }
+    let count = day.count as usize;
+    let i = position(rows, count, name);
+    if i == count {
+        return DropOutcome {
+            answer: Answer::Refused(NO_NAME),
+            day,
+            rows,
+        };
+    }
+    let rest = close_gap(rows, count, i);
+    lay_standing(file, c, day, rest, count - 1, opens, reserves, helds);
+    DropOutcome {
+        answer: Answer::Dropped,
+        day: Day {
+            rounds: day.rounds,
+            disk: day.disk,
+            memory: day.memory,
+            now: day.now,
+            count: day.count - 1,
+        },
+        rows: rest,
+    }
+}

@@ -1,0 +1,4 @@
+-- The lines of an input.
+pub mod Lines
+pub mod Splits
+pub mod Session

@@ -1,0 +1,3 @@
+-- Definitions of the test programs' scripts.
+pub mod Checksum
+pub mod Operands
