@@ -5,6 +5,7 @@ use answer::write_reply;
 use booking::book;
 use commands::Command;
 use dropping::drop_booking;
+use limits::bounds::HALL_PLACES;
 use limits::bounds::MAX_BOOKINGS;
 use limits::refusals::COMMAND;
 use model::Answer;
@@ -16,7 +17,7 @@ use opening::open;
 use playing::play;
 
 // places of the program's list of bookings, and of its report
-const PLACES: u64 = 64;
+const PLACES: u64 = HALL_PLACES as u64;
 
 // What stands between two commands: the day and the records' places.
 pub struct Session {

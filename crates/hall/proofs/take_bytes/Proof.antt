@@ -1,3 +1,4 @@
+-- `hall::take_bytes` meets its contract. The measure is what is left of the bytes: feeding moves on by at least one. Assumes nothing.
 use Prim.Native.Nat.{ℕ, _+_, _-_, _*_, _<_, _≤_}
 use mathlib.Core.Path.{_≡_, refl, sym, ap, _∙_}
 use native.Mathlib.Omega.{arith}
@@ -5,10 +6,6 @@ use lib.ListN.{length, take, drop, getD, set}
 use borrow.Author.Needs.{needs}
 use Rattle.hall.proofs.take_bytes.Statement.{statement}
 use Rattle.hall.proofs.take_bytes.Tie as tie
-use Rattle.hall.proofs.take_bytes.Reads as reads
-use Rattle.hall.proofs.take_bytes.Lts as lts
-use Rattle.hall.proofs.answer_ended.Reads as answer-ended-reads
-use Rattle.hall.proofs.feed_some.Reads as feed-some-reads
 
 abbrev Inv-loop : tie.InvT-loop
 Inv-loop file bytes opens₀ reserves₀ helds₀ out₀ splitter₀ session₀ at₀ opens reserves helds out splitter session at =
@@ -18,43 +15,33 @@ abbrev μ-loop : tie.MeasureT-loop
 μ-loop file bytes opens₀ reserves₀ helds₀ out₀ splitter₀ session₀ at₀ opens reserves helds out splitter session at =
     length bytes - at
 
--- src/main.rt:132:5
 loop-holds : tie.Need-loop-holds Inv-loop μ-loop
 loop-holds c = search needs
 
--- src/main.rt:133:13
 feed-some-requires : tie.Need-feed-some-requires Inv-loop μ-loop
 feed-some-requires c κs = search needs
 
--- src/main.rt:136:9
 answer-ended-requires : tie.Need-answer-ended-requires Inv-loop μ-loop
 answer-ended-requires c κs = search needs
 
--- src/main.rt:132:5
 loop-less : tie.Need-loop-less Inv-loop μ-loop
 loop-less c = search needs
 
--- src/main.rt:132:5
 loop-again : tie.Need-loop-again Inv-loop μ-loop
 loop-again c = search needs
 
--- src/main.rt:120:1
 same-length : tie.Need-same-length Inv-loop μ-loop
 same-length c = search needs
 
--- src/main.rt:120:1
 same-length-2 : tie.Need-same-length-2 Inv-loop μ-loop
 same-length-2 c = search needs
 
--- src/main.rt:120:1
 same-length-3 : tie.Need-same-length-3 Inv-loop μ-loop
 same-length-3 c = search needs
 
--- src/main.rt:120:1
 same-length-4 : tie.Need-same-length-4 Inv-loop μ-loop
 same-length-4 c = search needs
 
--- src/main.rt:120:1
 returns : tie.Need-returns Inv-loop μ-loop
 returns c = search needs
 
