@@ -1,6 +1,8 @@
-// What a call of the desk is lent, given and gives, as plain data.
+// What a call of the desk is lent, given and gives, as plain data. The structs are laid out as in C, so that a program in C or
+// Rust can lend them.
 
 // A record of the list of bookings. The desk chooses the name; cabs has one bit per cab.
+#[repr(C)]
 pub struct Booking {
     pub name: u32,
     pub film: u16,
@@ -12,6 +14,7 @@ pub struct Booking {
 
 // A booking as it is asked for. Every number but the name is 64 bits wide, so that one too large for its field meets that
 // field's own question.
+#[repr(C)]
 pub struct Request {
     pub name: u32,
     pub film: u64,
@@ -24,6 +27,7 @@ pub struct Request {
 
 // A day: T rounds, the disk limit D in bytes per round, the memory limit M in bytes, the current round and the number of
 // bookings that stand.
+#[repr(C)]
 pub struct Day {
     pub rounds: u64,
     pub disk: u64,
@@ -33,6 +37,7 @@ pub struct Day {
 }
 
 // A line of a round's report, in bytes.
+#[repr(C)]
 pub struct Line {
     pub name: u32,
     pub read: u64,
