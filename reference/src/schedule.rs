@@ -22,6 +22,14 @@ pub fn totals(sends: &[u64]) -> Vec<u64> {
     totals
 }
 
+/// What a film reads, sends and holds in one round, in bytes.
+#[derive(Clone, Copy, Debug, PartialEq, Eq)]
+pub struct Round {
+    pub read: u64,
+    pub send: u64,
+    pub held: u64,
+}
+
 /// Place t - 1 of a list of totals, where the total before round 0 is 0.
 pub fn before(totals: &[u64], t: usize) -> u64 {
     if t == 0 {
@@ -110,6 +118,24 @@ pub fn schedule(
     ask(exists(&sends, reserve), Refusal::NoSchedule)?;
     output[..sends.len()].copy_from_slice(&just_in_time(&sends, reserve));
     Ok(())
+}
+
+/// What a film, p and b read, send and hold in each round: the file's questions, then 8, 9, 10, 12.
+pub fn rounds(file: &[u8], film: u64, prefetch: u64, reserve: u64) -> Result<Vec<Round>, Refusal> {
+    let films = decode(file)?;
+    let film = find(&films, film)?;
+    ask(prefetch <= MAX_PREFETCH, Refusal::PrefetchTooLong)?;
+    ask(reserve <= MAX_RESERVE, Refusal::ReserveTooLarge)?;
+    let sends = sends(prefetch, &film.sizes);
+    ask(exists(&sends, reserve), Refusal::NoSchedule)?;
+    let reads = just_in_time(&sends, reserve);
+    let held = held(&sends, &reads);
+    let round = |t: usize| Round {
+        read: reads[t] - before(&reads, t),
+        send: sends[t],
+        held: held[t],
+    };
+    Ok((0..sends.len()).map(round).collect())
 }
 
 /// The least reserve of a film, p and cap: the file's questions, then 8, 9, 13.

@@ -1,16 +1,28 @@
-// Carries out a script over the calls for a film's schedule and for its least reserve.
-ghost use Prim.Native.Nat.{_<_, _≤_};
+// Carries out a script over the calls for a film's schedule, for its least reserve and for what it holds.
+ghost use Prim.Native.Nat.{_+_, _<_, _≤_};
 ghost use lib.ListN.{length};
+ghost use Rattle.films.specs.Sizes.{Stored};
+ghost use Rattle.retrieval.specs.Stored.{InRange};
+use films::catalogue::catalogue;
+use films::lookup::lookup;
+use films::types::Lookup;
 use io::read_full;
 use libc::STDIN_FILENO;
+use limits::bounds::MAX_PREFETCH;
+use limits::bounds::MAX_RESERVE;
+use limits::refusals;
 use planning::reserves::Reserve;
 use planning::reserves::least_reserve;
 use planning::schedules::Scheduled;
 use planning::schedules::schedule;
+use retrieval::exists;
+use retrieval::peak;
+use retrieval::round_at;
 use script::buffer;
 use script::buffer::BUFFER;
 use script::buffer::file_length;
 use script::buffer::list_length;
+use script::checksum::absorb;
 use script::checksum::absorb_all;
 use script::line;
 use script::line::Line;
@@ -24,6 +36,8 @@ const PRINT: u64 = 8;
 const SCHEDULE: u64 = 10;
 
 const RESERVE: u64 = 11;
+
+const PEAK: u64 = 12;
 
 // places of the output list
 const PLACES: usize = 4400;
@@ -102,12 +116,72 @@ fn reserve(script: &[u8], at: usize, file: &[u8], sum: u64) -> u64 {
     }
 }
 
+// The checksum over what a film reads, sends and holds in each of its rounds.
+fn rounds_sum(file: &[u8], at: usize, n: usize, p: usize, b: u64) -> u64
+    requires { ⌜ InRange (now file) at n p b ⌝ }
+{
+    let mut sum = 0;
+    let mut t = 0;
+    while t < p + n {
+        let round = round_at(file, at, n, p, b, t);
+        sum = absorb(absorb(absorb(sum, round.read), round.send), round.held);
+        t += 1;
+    }
+    sum
+}
+
+// The line of a refusal. Gives the checksum.
+fn refused(number: u32, sum: u64) -> u64 {
+    line::end(line::add(line::begin(sum, true), number as u64))
+}
+
+// The line of what a film holds whose n sizes stand at an offset of the file. Gives the checksum.
+fn holds(file: &[u8], at: usize, n: usize, p: u64, b: u64, sum: u64) -> u64
+    requires { ⌜ Stored (now file) at n ⌝ }
+{
+    if MAX_PREFETCH < p {
+        return refused(refusals::PREFETCH, sum);
+    }
+    if MAX_RESERVE < b {
+        return refused(refusals::RESERVE, sum);
+    }
+    let ahead = p as usize;
+    if !exists(file, at, n, ahead, b) {
+        return refused(refusals::NO_SCHEDULE, sum);
+    }
+    let most = peak(file, at, n, ahead, b);
+    let line = line::add(line::add(line::begin(sum, true), 0), most);
+    line::end(line::add(line, rounds_sum(file, at, n, ahead, b)))
+}
+
+// The line of what a film of the file holds. Gives the checksum.
+fn holdings(file: &[u8], film: u64, p: u64, b: u64, sum: u64) -> u64 {
+    let films = catalogue(file);
+    if films.verdict != 0 {
+        return refused(films.verdict, sum);
+    }
+    let found = lookup(films, film);
+    match found {
+        Lookup::Found(offset, n) => holds(file, offset, n, p, b, sum),
+        Lookup::Missing => refused(refusals::NO_FILM, sum),
+    }
+}
+
+// What the film that the operation at a position names holds. Gives the checksum.
+fn profile(script: &[u8], at: usize, file: &[u8], sum: u64) -> u64 {
+    let film = u64_at(script, at, 1);
+    let p = u64_at(script, at, 9);
+    let b = u64_at(script, at, 17);
+    holdings(file, film, p, b, sum)
+}
+
 // Carries out the operation at a position if it asks about a film. Gives the checksum.
 fn ask(script: &[u8], at: usize, file: &[u8], out: &mut [u64], sum: u64) -> u64 {
     let n = list_length(out, operands::u32_at(script, at, 25) as usize);
     match operands::u8_at(script, at, 0) {
         SCHEDULE => answer(script, at, file, &mut out[..n], sum),
         RESERVE => reserve(script, at, file, sum),
+        PEAK => profile(script, at, file, sum),
         PRINT => {
             line::print(sum);
             sum
@@ -133,7 +207,7 @@ fn after(script: &[u8], at: usize) -> usize
     if opcode == SCHEDULE {
         return operands::after(script, at, 28);
     }
-    if opcode == RESERVE {
+    if opcode == RESERVE || opcode == PEAK {
         return operands::after(script, at, 24);
     }
     operands::after(script, at, buffer::operands(script, at))

@@ -1,4 +1,4 @@
-//! The schedules' cases: totals and least reserves, small films at every cap, the largest film, every refusal.
+//! The schedules' cases: totals, least reserves and what is held, small films at every cap, the largest film, every refusal.
 
 use super::checksum::Checksum;
 use super::file_buffer::FileBuffer;
@@ -8,11 +8,12 @@ use crate::bounds::{MAX_PREFETCH, MAX_RESERVE, MAX_SIZE};
 use crate::exhaustive::{self, every_schedule};
 use crate::film_file::{encode, Film};
 use crate::refusal::Refusal;
-use crate::schedule::{exists, held, just_in_time, least_reserve, peak, schedule, sends};
+use crate::schedule::{exists, held, just_in_time, least_reserve, peak, rounds, schedule, sends};
 
 const PRINT: u8 = 8;
 const SCHEDULE: u8 = 10;
 const RESERVE: u8 = 11;
+const PEAK: u8 = 12;
 
 /// Places of the longest output list that a script lends.
 pub const MAX_ROOM: u32 = 4_400;
@@ -41,6 +42,10 @@ pub fn run(script: &[u8]) -> Vec<u8> {
                     Err(refusal) => vec![refusal.number()],
                 }
             }
+            PEAK => {
+                let (film, prefetch, reserve) = (script.u64(), script.u64(), script.u64());
+                peak_fields(buffer.file(), film, prefetch, reserve)
+            }
             PRINT => {
                 output.line(&[checksum.0]);
                 continue;
@@ -68,11 +73,29 @@ fn schedule_fields(file: &[u8], film: u64, prefetch: u64, reserve: u64, room: u3
     fields
 }
 
+/// The refusal; or 0, the peak and the checksum of what each round reads, sends and holds.
+fn peak_fields(file: &[u8], film: u64, prefetch: u64, reserve: u64) -> Vec<u64> {
+    let rounds = match rounds(file, film, prefetch, reserve) {
+        Ok(rounds) => rounds,
+        Err(refusal) => return vec![refusal.number()],
+    };
+    let held: Vec<u64> = rounds.iter().map(|round| round.held).collect();
+    let mut checksum = Checksum::default();
+    for round in &rounds {
+        checksum.add_all(&[round.read, round.send, round.held]);
+    }
+    vec![0, peak(&held), checksum.0]
+}
+
 impl Script {
     fn schedule(&mut self, film: u64, prefetch: u64, reserve: u64, room: u32) -> &mut Script {
         assert!(room <= MAX_ROOM);
         self.u8(SCHEDULE).u64(film).u64(prefetch);
         self.u64(reserve).u32(room)
+    }
+
+    fn peak(&mut self, film: u64, prefetch: u64, reserve: u64) -> &mut Script {
+        self.u8(PEAK).u64(film).u64(prefetch).u64(reserve)
     }
 
     fn reserve(&mut self, film: u64, prefetch: u64, cap: u64) -> &mut Script {
@@ -106,6 +129,7 @@ fn figures(script: &mut Script) {
     for (prefetch, reserve) in [(1, 6), (0, 7), (0, 8), (1, 5), (2, 5), (1, 7)] {
         script.schedule(1, prefetch, reserve, 6 + prefetch as u32);
         script.schedule(1, prefetch, reserve, 20);
+        script.peak(1, prefetch, reserve);
     }
     for cap in [12, 11, 8, 7, 0, u64::MAX] {
         script.reserve(1, 1, cap);
@@ -115,6 +139,7 @@ fn figures(script: &mut Script) {
         for reserve in [0, 1, 4, 5, MAX_RESERVE] {
             for film in [0, 9, 10] {
                 script.schedule(film, prefetch, reserve, 300);
+                script.peak(film, prefetch, reserve);
             }
         }
         for cap in [0, 1, 4, 5, 6] {
@@ -132,10 +157,12 @@ fn order_of_questions(script: &mut Script) {
     script.file(&file).len(file.len() - 1);
     script
         .schedule(2, 257, MAX_RESERVE + 1, 0)
+        .peak(2, 257, MAX_RESERVE + 1)
         .reserve(2, 257, 0);
     script.len(file.len() + 1);
     script
         .schedule(2, 257, MAX_RESERVE + 1, 0)
+        .peak(2, 257, MAX_RESERVE + 1)
         .reserve(2, 257, 0);
     script.len(0).schedule(1, 0, 9, 2).reserve(1, 0, 9);
     script.len(file.len());
@@ -148,6 +175,7 @@ fn order_of_questions(script: &mut Script) {
             for reserve in reserves {
                 if film == 1 || prefetch == 257 || reserve == u64::MAX {
                     script.schedule(film, prefetch, reserve, 1);
+                    script.peak(film, prefetch, reserve);
                 }
             }
         }
@@ -174,6 +202,9 @@ fn largest_film(script: &mut Script) {
         for prefetch in [0, 1, MAX_PREFETCH] {
             for reserve in [MAX_RESERVE, MAX_RESERVE - 1, 15_790_321, 15_790_320, 0] {
                 script.schedule(65_535, prefetch, reserve, MAX_ROOM);
+            }
+            for reserve in [MAX_RESERVE, 15_790_321] {
+                script.peak(65_535, prefetch, reserve);
             }
             script.schedule(65_535, prefetch, MAX_RESERVE, prefetch as u32 + 4_096);
             script.schedule(65_535, prefetch, MAX_RESERVE, prefetch as u32 + 4_095);
@@ -210,6 +241,7 @@ fn small_films(script: &mut Script, random: &mut Random) {
         let sends = sends(prefetch, &sizes);
         for reserve in 0..=largest {
             script.schedule(1, prefetch, reserve, sends.len() as u32 + 2);
+            script.peak(1, prefetch, reserve);
             decided_by_trying_all(&sends, reserve);
         }
         let highest = peak(&held(&sends, &just_in_time(&sends, 0)));
@@ -221,7 +253,8 @@ fn small_films(script: &mut Script, random: &mut Random) {
     }
 }
 
-/// A schedule exists exactly if trying all finds one, and the just-in-time one is then among them and least in each round.
+/// A schedule exists exactly if trying all finds one, and the just-in-time one is then among them and least in each round: so
+/// no schedule has a smaller peak.
 fn decided_by_trying_all(sends: &[u64], reserve: u64) {
     let all = every_schedule(sends, reserve);
     assert_eq!(exists(sends, reserve), !all.is_empty());
@@ -231,6 +264,8 @@ fn decided_by_trying_all(sends: &[u64], reserve: u64) {
         assert!(all
             .iter()
             .all(|other| (0..reads.len()).all(|t| reads[t] <= other[t])));
+        let least = all.iter().map(|other| peak(&held(sends, other))).min();
+        assert_eq!(least, Some(peak(&held(sends, &reads))));
     }
 }
 
@@ -263,6 +298,7 @@ fn drawn_films(script: &mut Script, random: &mut Random) {
             for reserve in [least, least.saturating_sub(1), between] {
                 let room = prefetch + rounds + random.below(3);
                 script.schedule(500, prefetch, reserve, room as u32);
+                script.peak(500, prefetch, reserve);
             }
         }
     }
