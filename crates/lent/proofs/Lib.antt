@@ -5,3 +5,4 @@ pub mod Lists
 pub mod Small
 pub mod Again
 pub mod Calls
+pub mod ReplayStep

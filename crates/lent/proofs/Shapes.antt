@@ -10,6 +10,8 @@ use Rattle.model.proofs.Request.Laws as Q′
 use Rattle.model.specs.declared.Line.{Line}
 use Rattle.lent.proofs.reply.Reply as P
 use Rattle.lent.proofs.reply.Reply.Laws as P′
+use Rattle.lent.proofs.replay_call.Replayed as D
+use Rattle.lent.proofs.replay_call.Replayed.Laws as D′
 use Rattle.lent.proofs.Rows.{Kind}
 
 abbrev pub booking : Kind
@@ -26,6 +28,9 @@ request = record { type = Q.the-type; laws = Q′.the-laws; plain = Q′.the-pla
 
 abbrev pub reply : Kind
 reply = record { type = P.the-type; laws = P′.the-laws; plain = P′.the-plain; copies = P′.the-copy }
+
+abbrev pub replayed : Kind
+replayed = record { type = D.the-type; laws = D′.the-laws; plain = D′.the-plain; copies = D′.the-copy }
 
 -- a line whose every field is 0
 abbrev pub noLine : Line

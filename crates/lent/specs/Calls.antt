@@ -32,9 +32,12 @@ pub record Gives (S : Setting) (x : Outcome) (a : Answer) (day : Day) (rows : Li
   pub reserves : reserved ≡ x .state .reserves
   pub helds : held ≡ x .state .helds
 
-same-day : (S : Setting) (list : List Booking) (x y : Outcome) → Same list x y → dayOf S (x .state) ≡ dayOf S (y .state)
-same-day S list x y s =
-    ap₂ (λ (n c : ℕ). record { rounds = S .rounds; disk = S .disk; memory = S .memory; now = n; count = c }) (s .now) (s .count)
+-- a state's day is told by its round and its count
+pub day-by : (S : Setting) (x y : State) → x .now ≡ y .now → x .count ≡ y .count → dayOf S x ≡ dayOf S y
+day-by S x y = ap₂ (λ (n c : ℕ). record { rounds = S .rounds; disk = S .disk; memory = S .memory; now = n; count = c })
+
+pub same-day : (S : Setting) (list : List Booking) (x y : Outcome) → Same list x y → dayOf S (x .state) ≡ dayOf S (y .state)
+same-day S list x y s = day-by S (x .state) (y .state) (s .now) (s .count)
 
 pub leaves : (S : Setting) (list : List Booking) (x y : Outcome) → Same list x y → (a : Answer) (day : Day) (rows : List Booking) (o r h : List ℕ)
     → Gives S x a day rows o r h → Leaves S y (replyOf a day) (stored maxBookings rows list) o r h

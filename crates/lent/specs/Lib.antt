@@ -5,3 +5,11 @@ pub mod Same
 pub mod FilmReader
 pub mod Reply
 pub mod Calls
+pub mod FilmCalls
+pub mod PlanCalls
+pub mod Rounds
+pub mod DeskCalls
+pub mod DeskLaws
+pub mod Unaltered
+pub mod ReplayCall
+pub mod ReplayLaws

@@ -19,7 +19,7 @@ replyOf (Booked s) day = numbers 0 s 0 0 day
 replyOf Dropped day = numbers 0 0 0 0 day
 replyOf (Played n c) day = numbers 0 0 n c day
 
--- ---- the paper's number and values of the answer are in it
+-- ---- the paper's number and values of the answer are in it, and the day
 
 pub reply-number : (a : Answer) (day : Day) → replyOf a day .refusal ≡ numberOf a
 reply-number (Refused k) day = refl
@@ -27,6 +27,13 @@ reply-number Opened day = refl
 reply-number (Booked s) day = refl
 reply-number Dropped day = refl
 reply-number (Played n c) day = refl
+
+pub reply-day : (a : Answer) (day : Day) → replyOf a day .day ≡ day
+reply-day (Refused k) day = refl
+reply-day Opened day = refl
+reply-day (Booked s) day = refl
+reply-day Dropped day = refl
+reply-day (Played n c) day = refl
 
 pub reply-booked : (s : ℕ) (day : Day) → replyOf (Booked s) day .start ∷ [] ≡ valuesOf (Booked s)
 reply-booked s day = refl

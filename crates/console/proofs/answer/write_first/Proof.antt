@@ -1,0 +1,51 @@
+-- `console::answer::write_first` meets its contract: there is room for any line. Assumes nothing.
+use borrow.Author.Needs.{needs}
+use Rattle.text.specs.Text.{answerText}
+use Rattle.console.specs.Writing.{next-wrote, never-full}
+use Rattle.console.proofs.answer.write_first.Statement.{statement}
+use Rattle.console.proofs.answer.write_first.Tie as tie
+
+write-answer-requires : tie.Need-write-answer-requires
+write-answer-requires c κs = search needs
+
+enum-known-next : tie.Need-enum-known-next
+enum-known-next c = search needs
+
+enum-told : tie.Need-enum-told
+enum-told c = search needs
+
+same-length : tie.Need-same-length
+same-length c = search needs
+
+returns : tie.Need-returns
+returns c =
+    let wrote = c .before .before .before .before .before .write-answer in
+    let start = c .before .before .before .before .before .before .before .before in
+    let a = start .args in
+    next-wrote (a .out .now) 0 (answerText (a .name) (a .round) (a .answer)) (start .pre) (wrote .result) _ _
+    (c .before .next .given .1)
+    (wrote .ensures .0)
+    (wrote .ensures .1)
+
+same-length-2 : tie.Need-same-length-2
+same-length-2 c = search needs
+
+returns-2 : tie.Need-returns-2
+returns-2 c =
+    let wrote = c .before .before .before .before .write-answer in
+    let start = c .before .before .before .before .before .before .before in
+    let a = start .args in
+    absurd
+    (never-full (a .out .now) 0 (answerText (a .name) (a .round) (a .answer)) (start .pre) (wrote .result) (c .enum-told .given .1) (wrote .ensures .0))
+
+pub write-first-spec : {M : Type 1} → statement M
+write-first-spec =
+    tie.close
+    (tie.spec
+    write-answer-requires
+    enum-known-next
+    enum-told
+    same-length
+    returns
+    same-length-2
+    returns-2)
