@@ -4,8 +4,9 @@ use mathlib.Core.Path.{_≡_, refl}
 use native.Mathlib.Omega.{arith}
 use native.Mathlib.Nat.{mul-le-mul}
 use native.Mathlib.Decide.{decLe}
+use lib.ListN.{List·getD-eq-default}
 use Rattle.limits.specs.Bounds.{maxBookings}
-use Rattle.loss.specs.Loss.{table, lossAt, squareOfOne, LossRule, table-rule}
+use Rattle.loss.specs.Loss.{table, lossAt, squareOfOne, LossRule, table-rule, table-length}
 
 -- no loss with no film open, and one film more never loses less
 pub record Rising (loss : ℕ → ℕ) : Type 0 where
@@ -49,8 +50,13 @@ rule-bound loss k h r =
 pub loss-rising : Rising lossAt
 loss-rising = rule-rising lossAt table-rule
 
-pub loss-bound : (k : ℕ) → k ≤ maxBookings → lossAt k ≤ maxLoss
-loss-bound k h = rule-bound lossAt k h (table-rule k h)
+-- past the table it is 0
+pub loss-bound : (k : ℕ) → lossAt k ≤ maxLoss
+loss-bound k = go (decLe k maxBookings)
+  where
+    go : Dec (k ≤ maxBookings) → lossAt k ≤ maxLoss
+    go (yes h) = rule-bound lossAt k h (table-rule k h)
+    go (no h) = rw (List·getD-eq-default table 0 {n = k} (omega (arith, table-length))) (omega arith)
 
 -- "loss(0) = 0, loss(1) = 100,000, loss(2) = 141,421, loss(3) = 173,205, loss(256) = 1,600,000"
 pub record Named (loss : ℕ → ℕ) : Type 0 where

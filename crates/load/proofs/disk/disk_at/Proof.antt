@@ -1,9 +1,10 @@
 -- `load::disk::disk_at` meets its contract. At most 256 reserves and the largest loss fit 64 bits. Assumes nothing.
 use mathlib.Core.Path.{ap, _∙_}
+use Prim.Native.Nat.{_≤_}
 use native.Mathlib.Omega.{arith}
 use borrow.Author.Needs.{needs}
 use Rattle.loss.specs.Loss.{lossAt}
-use Rattle.loss.specs.Rising.{loss-bound}
+use Rattle.loss.specs.Rising.{maxLoss, loss-bound}
 use Rattle.load.specs.Disk.{diskKept}
 use Rattle.load.proofs.disk.disk_at.Statement.{statement}
 use Rattle.load.proofs.disk.disk_at.Tie as tie
@@ -15,7 +16,9 @@ loss-requires : tie.Need-loss-requires
 loss-requires c κs = search needs
 
 add-result : tie.Need-add-result
-add-result c = omega (arith, c .before .before .demand-in .ensures, c .before .loss .ensures, loss-bound (c .before .before .demand-in .result .open) (omega (arith, c .before .before .demand-in .ensures)))
+add-result c =
+    let lost : c .before .loss .result ≤ maxLoss = rw (c .before .loss .ensures) (loss-bound _) in
+    omega (arith, c .before .before .demand-in .ensures)
 
 returns : tie.Need-returns
 unfolding diskKept

@@ -1,10 +1,10 @@
 -- `search::disk::takes` meets its contract: no sum of the day's reserves and losses grows too large. Assumes nothing.
-use Prim.Native.Nat.{ℕ, _+_}
+use Prim.Native.Nat.{ℕ, _+_, _≤_}
 use mathlib.Core.Path.{ap}
 use native.Mathlib.Omega.{arith}
 use borrow.Author.Needs.{needs}
 use lib.Dec.{leb}
-use Rattle.loss.specs.Rising.{loss-bound}
+use Rattle.loss.specs.Rising.{maxLoss, loss-bound}
 use Rattle.search.proofs.disk.takes.Statement.{statement}
 use Rattle.search.proofs.disk.takes.Tie as tie
 
@@ -18,7 +18,9 @@ loss-requires : tie.Need-loss-requires
 loss-requires c κs = search needs
 
 add-result-2 : tie.Need-add-result-2
-add-result-2 c = omega (arith, loss-bound (c .before .args .opened + 1) (omega arith))
+add-result-2 c =
+    let lost : c .loss .result ≤ maxLoss = rw (c .loss .ensures) (loss-bound _) in
+    omega arith
 
 returns : tie.Need-returns
 returns c =
