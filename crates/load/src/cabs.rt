@@ -12,7 +12,7 @@ ghost use Rattle.load.specs.Stream.{clashes, pairsClear};
 ghost use Rattle.load.specs.Basic.{Bounded, EachOf};
 
 // Whether the two have no cab in common or show in no common round. Round s+p+n is free.
-pub fn clear_pair(x: Stream, y: Stream) -> bool
+fn clear_pair(x: Stream, y: Stream) -> bool
     requires { ⌜ Bounded x × Bounded y ⌝ }
     ensures { λ r. ⌜ r ≡ not (clashes x y) ⌝ }
 {
@@ -28,7 +28,7 @@ pub fn clear_pair(x: Stream, y: Stream) -> bool
 }
 
 // Whether x clashes with none of those from place `from` to `count`.
-pub fn clear_of(x: Stream, xs: [Stream; MAX_BOOKINGS], from: usize, count: usize) -> bool
+fn clear_of(x: Stream, xs: [Stream; MAX_BOOKINGS], from: usize, count: usize) -> bool
     requires { ⌜ (from ≤ count) × (count ≤ maxBookings) × Bounded x × EachOf Bounded count xs ⌝ }
     ensures { λ r. ⌜ r ≡ all (λ y. not (clashes x y)) (slice from count xs) ⌝ }
 {

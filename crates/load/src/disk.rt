@@ -25,9 +25,9 @@ pub fn open_in(x: Stream, t: usize) -> bool
 }
 
 // What a round takes of the disk: films open, and the sum of their reserves in bytes.
-pub struct Demand {
-    pub open: u64,
-    pub reserve: u64,
+struct Demand {
+    open: u64,
+    reserve: u64,
 }
 
 // The demand with the stream's added, where it is open in round t.
@@ -46,7 +46,7 @@ fn demanded(d: Demand, x: Stream, t: usize) -> Demand
 }
 
 // The demand of round t.
-pub fn demand_in(xs: [Stream; MAX_BOOKINGS], count: usize, t: usize) -> Demand
+fn demand_in(xs: [Stream; MAX_BOOKINGS], count: usize, t: usize) -> Demand
     requires { ⌜ (count ≤ maxBookings) × EachOf Bounded count xs ⌝ }
     ensures { λ r. ⌜ (r .open ≡ openCount t (take count xs)) × (r .reserve ≡ reservedIn t (take count xs)) × (r .open ≤ count) × (r .reserve ≤ maxReserve * count) ⌝ }
 {
@@ -64,7 +64,7 @@ pub fn demand_in(xs: [Stream; MAX_BOOKINGS], count: usize, t: usize) -> Demand
 }
 
 // Whether round t keeps the disk limit: reserves + loss(films open) ≤ D.
-pub fn disk_at(xs: [Stream; MAX_BOOKINGS], count: usize, t: usize, disk: u64) -> bool
+fn disk_at(xs: [Stream; MAX_BOOKINGS], count: usize, t: usize, disk: u64) -> bool
     requires { ⌜ (count ≤ maxBookings) × EachOf Bounded count xs ⌝ }
     ensures { λ r. ⌜ r ≡ diskKept disk (take count xs) t ⌝ }
 {

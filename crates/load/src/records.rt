@@ -25,7 +25,7 @@ fn ends_by(x: Stream, day_rounds: u64) -> bool
 }
 
 // Whether the booking passes 8, 9, 10 and 20 and s+p+n ≤ T.
-pub fn basic(x: Stream, day_rounds: u64) -> bool
+fn basic(x: Stream, day_rounds: u64) -> bool
     ensures { λ r. ⌜ r ≡ basicOf «day_rounds» x ⌝ }
 {
     if x.rounds < 1 {
