@@ -28,7 +28,9 @@ add-each-requires : tie.Need-add-each-requires
 add-each-requires c κs =
     let start = c .before .before .before .before .before .before in
     let a = start .args in
-    (tail-fits (a .x .start) (lengthOf (a .x)) (a .opens .now) (omega arith), tail-below (a .x .start) 1 1 (a .opens .now) (omega arith) (start .pre .opens-room))
+    let fits = tail-fits (a .x .start) (lengthOf (a .x)) (a .opens .now) (omega arith) in
+    let room = tail-below (a .x .start) 1 1 (a .opens .now) (omega arith) (start .pre .opens-room) in
+    (omega arith, omega arith)
 
 mul-add-each-2 : tie.Need-mul-add-each-2
 mul-add-each-2 c = search needs
@@ -46,7 +48,9 @@ add-each-requires-2 : tie.Need-add-each-requires-2
 add-each-requires-2 c κs =
     let start = c .before .before .before .before .before .before .before .before .before .before in
     let a = start .args in
-    (tail-fits (a .x .start) (lengthOf (a .x)) (a .reserves .now) (omega arith), tail-below (a .x .start) (a .x .reserve) maxReserve (a .reserves .now) (start .pre .stream .bounded .reserve) (start .pre .reserves-room))
+    let fits = tail-fits (a .x .start) (lengthOf (a .x)) (a .reserves .now) (omega arith) in
+    let room = tail-below (a .x .start) maxReserve maxReserve (a .reserves .now) (omega arith) (start .pre .reserves-room) in
+    (omega arith, omega (arith, start .pre .stream .bounded .reserve))
 
 mul-add-held : tie.Need-mul-add-held
 mul-add-held c = search needs

@@ -1,18 +1,19 @@
 -- `sheet::sheet::lay_sheet` meets its contract. Each list's first T places are zeroed and lent. Assumes nothing.
 use mathlib.Core.Path.{sym}
+use native.Mathlib.Omega.{arith}
 use borrow.Author.Needs.{needs}
 use Rattle.sheet.specs.LaidLaws.{length-cleared, lays-lists, lays-laid}
 use Rattle.sheet.proofs.sheet.lay_sheet.Statement.{statement}
 use Rattle.sheet.proofs.sheet.lay_sheet.Tie as tie
 
 clear-requires : tie.Need-clear-requires
-clear-requires c κs = c .before .before .before .before .before .pre .places .opens-places
+clear-requires c κs = omega (arith, c .before .before .before .before .before .pre .places)
 
 clear-requires-2 : tie.Need-clear-requires-2
-clear-requires-2 c κs = c .before .before .before .before .before .before .before .before .before .pre .places .reserves-places
+clear-requires-2 c κs = omega (arith, c .before .before .before .before .before .before .before .before .before .pre .places)
 
 clear-requires-3 : tie.Need-clear-requires-3
-clear-requires-3 c κs = c .before .before .before .before .before .before .before .before .before .before .before .before .before .pre .places .helds-places
+clear-requires-3 c κs = omega (arith, c .before .before .before .before .before .before .before .before .before .before .before .before .before .pre .places)
 
 slice-relend-prefix-lay-on : tie.Need-slice-relend-prefix-lay-on
 slice-relend-prefix-lay-on c = search needs
