@@ -1,8 +1,8 @@
 // The first start of a booking's window that fits.
-pub mod cabs;
-pub mod disk;
-pub mod memory;
-pub mod window;
+mod cabs;
+mod disk;
+mod memory;
+mod window;
 
 use limits::bounds::MAX_PREFETCH;
 use limits::bounds::MAX_ROUNDS;

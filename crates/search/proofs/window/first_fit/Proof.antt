@@ -38,7 +38,7 @@ loop-holds c =
 try-start-requires : tie.Need-try-start-requires Inv-loop μ-loop
 try-start-requires c κs =
     let start = c .before .before .before .before .before .before .before in
-    (start .pre .0, start .pre .1, c .if1 .taken, c .before .before .loop .inv .known)
+    (start .pre .0, start .pre .1, omega arith, c .before .before .loop .inv .known)
 
 enum-told : tie.Need-enum-told Inv-loop μ-loop
 enum-told c = search needs
@@ -49,7 +49,7 @@ returns c =
     let a = start .args in
     let l = c .before .before .before .before .before .loop in
     let fits : fitsAt (query start) (l .c .start) ≡ true = subst (Tells (query start) (l .c .start)) (c .enum-told .given .1) (c .before .before .try-start .ensures) in
-    sym (ap answerOf (first-found (fitsAt (query start)) (a .first) (a .last) (l .c .start) (l .inv .from) (c .before .before .before .if1 .taken) (l .inv .none) fits))
+    sym (ap answerOf (first-found (fitsAt (query start)) (a .first) (a .last) (l .c .start) (l .inv .from) (omega (arith, c .before .before .before .if1 .taken)) (l .inv .none) fits))
 
 enum-known-step : tie.Need-enum-known-step Inv-loop μ-loop
 enum-known-step c = search needs
