@@ -9,7 +9,7 @@ use Rattle.questions.proofs.soundness.streams_sound.Tie as tie
 pairs-clear-requires : tie.Need-pairs-clear-requires
 pairs-clear-requires c κs =
     let start = c .before in
-    (start .pre .0, λ i h. start .pre .1 i h .bounded)
+    (omega arith, λ i h. start .pre .1 i (omega arith) .bounded)
 
 returns : tie.Need-returns
 returns c = rw (sym (c .before .pairs-clear .ensures) ∙ not-true _ (c .if1 .taken))
@@ -17,7 +17,7 @@ returns c = rw (sym (c .before .pairs-clear .ensures) ∙ not-true _ (c .if1 .ta
 disk-at-starts-requires : tie.Need-disk-at-starts-requires
 disk-at-starts-requires c κs =
     let start = c .before .before .before in
-    (start .pre .0, λ i h. start .pre .1 i h .bounded)
+    (omega arith, λ i h. start .pre .1 i (omega arith) .bounded)
 
 returns-2 : tie.Need-returns-2
 returns-2 c =
