@@ -2,10 +2,9 @@
 use model::Answer;
 use model::Day;
 use questions::asked::opening_number;
-ghost use mathlib.Core.Path.{_≡_};
-ghost use mathlib.Core.List.{List, _++_};
-ghost use Prim.Native.Nat.{ℕ, _≤_};
-ghost use lib.ListN.{length, drop, replicate};
+use sheet::clear::clear;
+ghost use mathlib.Core.List.{List};
+ghost use Prim.Native.Nat.{ℕ};
 ghost use Rattle.films.specs.Layout.{Film};
 ghost use Rattle.loss.specs.Loss.{lossAt};
 ghost use Rattle.model.specs.Code.{settingOf, stateOf};
@@ -16,18 +15,6 @@ ghost use Rattle.opening.specs.Contract.{asked, Opens};
 pub struct Opened {
     pub answer: Answer,
     pub day: Day,
-}
-
-// Zeroes the first n places.
-fn clear(list: &mut [u64], n: usize)
-    requires { ⌜ n ≤ length (now list) ⌝ }
-    ensures { λ _. ⌜ now (list .exit) ≡ replicate n 0 ++ drop n (now (list .entry)) ⌝ }
-{
-    let mut i = 0;
-    while i < n {
-        list[i] = 0;
-        i += 1;
-    }
 }
 
 // Opens a day of so many rounds with these limits: no booking stands, and the sheet's first T places are 0. Refused, the day

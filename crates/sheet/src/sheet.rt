@@ -1,24 +1,12 @@
 // The day sheet: films open, sum of reserves and sum of bytes held, by round.
+use crate::clear::clear;
 use limits::bounds::MAX_BOOKINGS;
 use load::stream::Stream;
 ghost use mathlib.Core.Path.{_≡_};
 ghost use Prim.Native.Nat.{_≤_};
-ghost use mathlib.Core.List.{_++_};
-ghost use lib.ListN.{length, take, drop, replicate};
+ghost use lib.ListN.{length, take, replicate};
 ghost use Rattle.retrieval.specs.Sheet.{plus};
 ghost use Rattle.sheet.specs.Sheet.{Below, Addable, AddedTo, Lists, LaidOn, Lays, Laid, Raises, Raised};
-
-// Zeroes the first n places.
-fn clear(list: &mut [u64], n: usize)
-    requires { ⌜ n ≤ length (now list) ⌝ }
-    ensures { λ _. ⌜ now (list .exit) ≡ replicate n 0 ++ drop n (now (list .entry)) ⌝ }
-{
-    let mut i = 0;
-    while i < n {
-        list[i] = 0;
-        i += 1;
-    }
-}
 
 // Adds v to each of the first n places.
 fn add_each(part: &mut [u64], n: usize, v: u64)

@@ -1,6 +1,7 @@
 -- `opening::open` meets its contract: the number is the model's, a refusal leaves everything, and each list is zeroed in its
 -- first T places, which 11 says are there. Assumes nothing.
 use mathlib.Core.Path.{refl}
+use native.Mathlib.Omega.{arith}
 use borrow.Author.Needs.{needs}
 use Rattle.loss.specs.Loss.{lossAt}
 use Rattle.model.specs.Code.{settingOf, stateOf}
@@ -23,17 +24,17 @@ returns c verdict films rows places =
 clear-requires : tie.Need-clear-requires
 clear-requires c κs =
     let left = c .before in
-    asks-long _ _ _ _ _ _ _ (left .before .opening-number .ensures) (left .if1 .left) .opens
+    omega (arith, asks-long _ _ _ _ _ _ _ (left .before .opening-number .ensures) (left .if1 .left))
 
 clear-requires-2 : tie.Need-clear-requires-2
 clear-requires-2 c κs =
     let left = c .before .before .before .before .before in
-    asks-long _ _ _ _ _ _ _ (left .before .opening-number .ensures) (left .if1 .left) .reserves
+    omega (arith, asks-long _ _ _ _ _ _ _ (left .before .opening-number .ensures) (left .if1 .left))
 
 clear-requires-3 : tie.Need-clear-requires-3
 clear-requires-3 c κs =
     let left = c .before .before .before .before .before .before .before .before .before in
-    asks-long _ _ _ _ _ _ _ (left .before .opening-number .ensures) (left .if1 .left) .helds
+    omega (arith, asks-long _ _ _ _ _ _ _ (left .before .opening-number .ensures) (left .if1 .left))
 
 same-length : tie.Need-same-length
 same-length c = search needs
