@@ -65,11 +65,6 @@ pub record Valid (fs : List Film) : Type 0 where
   pub rising : Rising fs
   pub each : Each fs
 
--- "total bytes" of a film's sizes
-abbrev pub total : List ℕ → ℕ
-total [] = 0
-total (x ∷ xs) = x + total xs
-
 -- ---- looking a film up
 
 -- "is the film in the file?"

@@ -8,9 +8,10 @@ use native.Mathlib.Nat.{mul-suc}
 use mathlib.Core.Bool.{Bool, true, false, cond}
 use lib.ListN.{length, getD}
 use lib.Dec.{eqb}
+use Rattle.laws.specs.Sums.{sum}
 use Rattle.laws.specs.Words.{Bytes}
 use Rattle.limits.specs.Bounds.{maxSize}
-use Rattle.films.specs.Layout.{Film, encode, total, ValidFilm, Each, Valid, sizesOf}
+use Rattle.films.specs.Layout.{Film, encode, ValidFilm, Each, Valid, sizesOf}
 use Rattle.films.specs.Questions.{verdict}
 use Rattle.films.specs.Decode.{filmsOf}
 use Rattle.films.specs.Accepted.{accepted, acceptance}
@@ -40,26 +41,26 @@ unique fs gs v w e = sym (encoded-films (encode fs) fs v refl) ∙ encoded-films
 
 -- ---- bounds
 
-pub total-bound : (xs : List ℕ) (m : ℕ) → ((i : ℕ) → getD xs i 0 ≤ m) → total xs ≤ m * length xs
+pub total-bound : (xs : List ℕ) (m : ℕ) → ((i : ℕ) → getD xs i 0 ≤ m) → sum xs ≤ m * length xs
 total-bound [] m h = omega arith
 total-bound (x ∷ xs) m h =
     let t = total-bound xs m (λ i. h (suc i)) in
     omega (arith, h 0, mul-suc m (length xs))
 
 -- a film's total is below 2^36 bytes
-pub film-total : (f : Film) → ValidFilm f → total (f .sizes) < 2 ^ 36
+pub film-total : (f : Film) → ValidFilm f → sum (f .sizes) < 2 ^ 36
 film-total f v = omega (arith, total-bound (f .sizes) maxSize (v .small), v .few)
 
 -- .. and so is the total of any film of the file, by its number
-pub each-total : (fs : List Film) → Each fs → (k : ℕ) → total (sizesOf fs k) < 2 ^ 36
+pub each-total : (fs : List Film) → Each fs → (k : ℕ) → sum (sizesOf fs k) < 2 ^ 36
 each-total [] v k = omega arith
 each-total (f ∷ fs) v k = go (eqb (f .number) k) (film-total f (v .0)) (each-total fs (v .1) k)
   where
-    go : (b : Bool) → total (f .sizes) < 2 ^ 36 → total (sizesOf fs k) < 2 ^ 36 → total (cond b (f .sizes) (sizesOf fs k)) < 2 ^ 36
+    go : (b : Bool) → sum (f .sizes) < 2 ^ 36 → sum (sizesOf fs k) < 2 ^ 36 → sum (cond b (f .sizes) (sizesOf fs k)) < 2 ^ 36
     go true h g = h
     go false h g = g
 
-pub accepted-total : (s : List ℕ) → Bytes s → verdict s ≡ 0 → (k : ℕ) → total (sizesOf (filmsOf s) k) < 2 ^ 36
+pub accepted-total : (s : List ℕ) → Bytes s → verdict s ≡ 0 → (k : ℕ) → sum (sizesOf (filmsOf s) k) < 2 ^ 36
 accepted-total s b e k = each-total (filmsOf s) (decoded-valid s (accepted s e) b .each) k
 
 -- an accepted file has at most 1,048,838 bytes

@@ -7,11 +7,12 @@ use native.Mathlib.Omega.{arith}
 use borrow.Author.Tests.{le-leb, lt-leb, not-true, not-false}
 use lib.ListN.{length, drop}
 use Rattle.laws.specs.Questions.{refusal}
+use Rattle.laws.specs.Sums.{largest}
 use Rattle.limits.specs.Bounds.{maxPrefetch, maxReserve}
 use Rattle.limits.specs.Refusals.{prefetchBound, reserveBound, noRoom, noSchedule, capBound}
 use Rattle.planning.specs.declared.schedules.Scheduled.the-variants.{Refused, Written}
 use Rattle.planning.specs.declared.reserves.Reserve.the-variants as reserve-as
-use Rattle.retrieval.specs.Schedule.{sends, largest}
+use Rattle.retrieval.specs.Schedule.{sends}
 use Rattle.retrieval.specs.JustInTime.{existsBy}
 use Rattle.planning.specs.Answers.{planQuestions, planTotals, Planned, reserveBy, capQuestions}
 

@@ -5,6 +5,7 @@ use Prim.Native.Nat.{ℕ, zero, suc, _+_}
 use lib.ListN.{length, drop}
 use lib.Dec.{leb}
 use Rattle.laws.specs.Questions.{Question, refusal}
+use Rattle.laws.specs.Sums.{largest}
 use Rattle.limits.specs.Bounds.{maxPrefetch, maxReserve}
 use Rattle.limits.specs.Refusals.{noFilm, prefetchBound, reserveBound, noRoom, noSchedule, capBound}
 use Rattle.films.specs.Layout.{inFile, sizesOf}
@@ -14,7 +15,7 @@ use Rattle.planning.specs.declared.schedules.Scheduled.{Scheduled}
 use Rattle.planning.specs.declared.schedules.Scheduled.the-variants as scheduled-as
 use Rattle.planning.specs.declared.reserves.Reserve.{Reserve}
 use Rattle.planning.specs.declared.reserves.Reserve.the-variants as reserve-as
-use Rattle.retrieval.specs.Schedule.{sends, largest}
+use Rattle.retrieval.specs.Schedule.{sends}
 use Rattle.retrieval.specs.JustInTime.{justInTime, existsBy}
 use Rattle.retrieval.specs.LeastReserve.{leastReserve}
 

@@ -8,6 +8,7 @@ use borrow.Author.Tests.{eq-eqb, ne-eqb, leb-true}
 use lib.ListN.{length}
 use lib.Dec.{eqb, leb}
 use Rattle.laws.specs.Questions.{Question, refusal, refusal-held}
+use Rattle.laws.specs.Sums.{largest}
 use Rattle.limits.specs.Bounds.{maxPrefetch}
 use Rattle.limits.specs.Refusals.{noFilm, prefetchBound, capBound}
 use Rattle.films.specs.Layout.{inFile, sizesOf}
@@ -23,7 +24,7 @@ use Rattle.planning.specs.declared.schedules.Scheduled.{Scheduled}
 use Rattle.planning.specs.declared.schedules.Scheduled.the-variants as scheduled-as
 use Rattle.planning.specs.declared.reserves.Reserve.{Reserve}
 use Rattle.planning.specs.declared.reserves.Reserve.the-variants as reserve-as
-use Rattle.retrieval.specs.Schedule.{sends, largest}
+use Rattle.retrieval.specs.Schedule.{sends}
 use Rattle.retrieval.specs.LeastReserve.{Least, leastReserve}
 use Rattle.retrieval.specs.ReserveLaws.{leastReserve-least}
 use Rattle.planning.specs.Answers.{scheduleQuestions, scheduled, scheduleOut, scheduledBy, scheduledNumber, planTotals, Planned, capQuestions, reserveQuestions, reserveBy, reserveNumber, reserved}

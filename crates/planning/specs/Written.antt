@@ -5,7 +5,8 @@ use Prim.Native.Nat.{ℕ, zero, suc, _+_, _-_, _≤_, _<_, max}
 use native.Mathlib.Nat.{not-suc-le-zero, le-of-suc-le-suc}
 use native.Mathlib.Omega.{arith}
 use lib.ListN.{length, getD, drop}
-use Rattle.retrieval.specs.Schedule.{sends, sum, totals}
+use Rattle.laws.specs.Sums.{sum}
+use Rattle.retrieval.specs.Schedule.{sends, totals}
 use Rattle.retrieval.specs.JustInTime.{justInTime}
 use Rattle.retrieval.specs.Minimality.{justInTime-last, justInTime-before}
 use Rattle.retrieval.specs.Round.{totals-at}

@@ -5,7 +5,7 @@ ghost use Rattle.films.specs.Layout.{sizesOf};
 ghost use Rattle.films.specs.Decode.{filmsOf};
 ghost use Rattle.films.specs.Sizes.{sizes, Stored};
 ghost use Rattle.laws.specs.Questions.{refusal};
-ghost use Rattle.retrieval.specs.Schedule as schedule;
+ghost use Rattle.laws.specs.Sums as sums;
 ghost use Rattle.retrieval.specs.Schedule.{sends};
 ghost use Rattle.retrieval.specs.LeastReserve.{Serves, Least, servesBy, leastReserve};
 ghost use Rattle.retrieval.specs.Stored.{sendsAt, InRange};
@@ -30,7 +30,7 @@ pub enum Reserve {
 // The largest of the film's n sizes.
 fn largest(file: &[u8], at: usize, n: usize) -> u64
     requires { ⌜ Stored (now file) at n ⌝ }
-    ensures { λ r. ⌜ r ≡ schedule.largest (sizes (now (file .entry)) at n) ⌝ }
+    ensures { λ r. ⌜ r ≡ sums.largest (sizes (now (file .entry)) at n) ⌝ }
 {
     let mut most: u64 = 0;
     let mut i = n;

@@ -5,8 +5,9 @@ use Prim.Native.Nat.{ℕ, _/_, max}
 use lib.ListN.{length}
 use lib.Dec.{eqb}
 use Rattle.laws.specs.Questions.{Question, refusal}
+use Rattle.laws.specs.Sums.{sum, largest}
 use Rattle.limits.specs.Refusals.{noFilm}
-use Rattle.films.specs.Layout.{inFile, sizesOf, total}
+use Rattle.films.specs.Layout.{inFile, sizesOf}
 use Rattle.films.specs.Questions.{file}
 use Rattle.films.specs.Decode.{filmsOf}
 use Rattle.reader.specs.declared.types.Summary.{Summary}
@@ -15,17 +16,13 @@ use Rattle.reader.specs.declared.types.Summary.the-variants.{Figures, Re
 abbrev pub larger : ℕ → ℕ → ℕ
 larger a b = max a b
 
--- "largest size"
-abbrev pub largest : List ℕ → ℕ
-largest [] = 0
-largest (x ∷ xs) = larger x (largest xs)
-
 -- "the mean total/n rounded down"
 unfoldable pub mean : ℕ → ℕ → ℕ
 mean total n = total / n
 
+-- "total bytes, largest size, and the mean"
 unfoldable pub figuresOf : List ℕ → Summary
-figuresOf xs = Figures (total xs) (largest xs) (mean (total xs) (length xs))
+figuresOf xs = Figures (sum xs) (largest xs) (mean (sum xs) (length xs))
 
 -- the file's questions, then "Summary: is the film in the file? 8."
 unfoldable pub summaryQuestions : List ℕ → ℕ → List Question

@@ -8,14 +8,15 @@ use borrow.Author.Tests.{eq-eqb, ne-eqb, eqb-true}
 use lib.ListN.{length}
 use lib.Dec.{eqb}
 use Rattle.laws.specs.Questions.{refusal}
+use Rattle.laws.specs.Sums.{sum, largest}
 use Rattle.limits.specs.Bounds.{maxSize}
 use Rattle.limits.specs.Refusals.{noFilm}
-use Rattle.films.specs.Layout.{inFile, sizesOf, total}
+use Rattle.films.specs.Layout.{inFile, sizesOf}
 use Rattle.films.specs.Sizes.{size, sizes, Stored}
 use Rattle.films.specs.SizeLaws.{getD-sizes, length-sizes}
 use Rattle.films.specs.Questions.{verdict}
 use Rattle.films.specs.Decode.{filmsOf}
-use Rattle.reader.specs.Summary.{largest, mean, figuresOf, summaryQuestions, summaryOf, summaryRefusal, summaryValues}
+use Rattle.reader.specs.Summary.{mean, figuresOf, summaryQuestions, summaryOf, summaryRefusal, summaryValues}
 use Rattle.reader.specs.declared.types.Summary.the-variants.{Figures, Refused}
 
 module _ (s : List ℕ) (k : ℕ) where
@@ -43,17 +44,17 @@ module _ (s : List ℕ) (k : ℕ) where
 
   -- the values are the film's total, largest size and mean
   pub summary-values : refusal (summaryQuestions s k) ≡ 0
-      → let xs = sizesOf (filmsOf s) k in summaryValues (summaryOf s k) ≡ total xs ∷ largest xs ∷ mean (total xs) (length xs) ∷ []
+      → let xs = sizesOf (filmsOf s) k in summaryValues (summaryOf s k) ≡ sum xs ∷ largest xs ∷ mean (sum xs) (length xs) ∷ []
   unfolding summaryOf figuresOf
   summary-values e = rw (eq-eqb _ _ e)
 
 -- ---- a turn of the loop over a film's sizes
 
 -- i sizes are added up
-pub record Adding (s : List ℕ) (at n sum most i : ℕ) : Type 0 where
+pub record Adding (s : List ℕ) (at n bytes most i : ℕ) : Type 0 where
   pub within : i ≤ n
-  pub bound : sum ≤ maxSize * i
-  pub total-is : total (sizes s at n) ≡ sum + total (sizes s (at + 4 * i) (n - i))
+  pub bound : bytes ≤ maxSize * i
+  pub sum-is : sum (sizes s at n) ≡ bytes + sum (sizes s (at + 4 * i) (n - i))
   pub largest-is : largest (sizes s at n) ≡ max most (largest (sizes s (at + 4 * i) (n - i)))
 
 pub adding-none : (s : List ℕ) (at n : ℕ) → Adding s at n 0 0 0
@@ -63,33 +64,33 @@ adding-none s at n =
     record {
       within = omega arith;
       bound = omega arith;
-      total-is = rw (e, f) (omega arith);
+      sum-is = rw (e, f) (omega arith);
       largest-is = rw (e, f) (omega arith);
     }
 
 pub adding-small : (s : List ℕ) (at n i : ℕ) → Stored s at n → i < n → size s (at + 4 * i) ≤ maxSize
 adding-small s at n i v h = omega (arith, v .small i, getD-sizes s at n i h)
 
-pub adding-more : (s : List ℕ) (at n sum most i x y : ℕ) → Stored s at n → Adding s at n sum most i → i < n → x ≡ size s (at + 4 * i) → y ≡ max most x
-    → Adding s at n (sum + x) y (i + 1)
-adding-more s at n sum most i x y v a h e g =
+pub adding-more : (s : List ℕ) (at n bytes most i x y : ℕ) → Stored s at n → Adding s at n bytes most i → i < n → x ≡ size s (at + 4 * i) → y ≡ max most x
+    → Adding s at n (bytes + x) y (i + 1)
+adding-more s at n bytes most i x y v a h e g =
     let z : n - i ≡ suc (n - (i + 1)) = omega arith in
     let w : at + 4 * (i + 1) ≡ at + 4 * i + 4 = omega arith in
-    let t = rw z at (a .total-is) in
+    let t = rw z at (a .sum-is) in
     let l = rw z at (a .largest-is) in
     record {
       within = omega arith;
       bound = omega (arith, a .bound, adding-small s at n i v h);
-      total-is = rw w (omega arith);
+      sum-is = rw w (omega arith);
       largest-is = rw w (omega arith);
     }
 
-pub adding-all : (s : List ℕ) (at n sum most i m : ℕ) → Adding s at n sum most i → n ≤ i → m ≡ mean sum n → Figures sum most m ≡ figuresOf (sizes s at n)
+pub adding-all : (s : List ℕ) (at n bytes most i m : ℕ) → Adding s at n bytes most i → n ≤ i → m ≡ mean bytes n → Figures bytes most m ≡ figuresOf (sizes s at n)
 unfolding figuresOf
-adding-all s at n sum most i m a h e =
+adding-all s at n bytes most i m a h e =
     let z : n - i ≡ 0 = omega arith in
-    let t = rw z at (a .total-is) in
+    let t = rw z at (a .sum-is) in
     let l = rw z at (a .largest-is) in
-    let p : total (sizes s at n) ≡ sum = omega arith in
+    let p : sum (sizes s at n) ≡ bytes = omega arith in
     let q : largest (sizes s at n) ≡ most = omega arith in
     rw (length-sizes s at n, p, q, e)

@@ -6,7 +6,8 @@ use Prim.Native.Nat.{ℕ, zero, suc, _+_, _-_, _*_, _≤_, _<_, max}
 use native.Mathlib.Nat.{not-suc-le-zero, le-of-suc-le-suc, suc-mul, mul-suc, zero-mul}
 use native.Mathlib.Omega.{arith}
 use lib.ListN.{length, getD, drop}
-use Rattle.retrieval.specs.Schedule.{sends, largest, totals, helds}
+use Rattle.laws.specs.Sums.{largest}
+use Rattle.retrieval.specs.Schedule.{sends, totals, helds}
 use Rattle.retrieval.specs.JustInTime.{due, justInTime}
 use Rattle.retrieval.specs.Carry.{carry, profile}
 

@@ -4,7 +4,8 @@ use mathlib.Core.Bool.{Bool, true, false}
 use mathlib.Core.List.{List, [], _∷_}
 use Prim.Native.Nat.{ℕ}
 use lib.Dec.{leb}
-use Rattle.retrieval.specs.Schedule.{sends, largest, helds, peak}
+use Rattle.laws.specs.Sums.{largest}
+use Rattle.retrieval.specs.Schedule.{sends, helds, peak}
 use Rattle.retrieval.specs.JustInTime.{justInTime, existsBy}
 use Rattle.retrieval.specs.LeastReserve.{Least}
 use Rattle.retrieval.specs.ReserveLaws.{leastBy-least}

@@ -4,7 +4,8 @@ use mathlib.Core.Bool.{Bool, cond, _&&_, not}
 use mathlib.Core.List.{List}
 use Prim.Native.Nat.{ℕ, zero, suc, _≤_}
 use lib.Dec.{leb}
-use Rattle.retrieval.specs.Schedule.{largest, Schedule, peak}
+use Rattle.laws.specs.Sums.{largest}
+use Rattle.retrieval.specs.Schedule.{Schedule, peak}
 use Rattle.retrieval.specs.JustInTime.{justInTime, existsBy}
 
 -- b has a schedule with peak at most the cap

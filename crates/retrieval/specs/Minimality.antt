@@ -9,8 +9,9 @@ use native.Mathlib.Omega.{arith}
 use borrow.Author.Tests.{leb-true, le-leb, eqb-true, eq-eqb}
 use lib.ListN.{length, getD}
 use lib.Dec.{eqb}
+use Rattle.laws.specs.Sums.{largest}
 use Rattle.retrieval.specs.Tests.{same-test}
-use Rattle.retrieval.specs.Schedule.{largest, totals, Reads, Schedule, helds}
+use Rattle.retrieval.specs.Schedule.{totals, Reads, Schedule, helds}
 use Rattle.retrieval.specs.JustInTime.{due, justInTime, existsBy}
 use Rattle.retrieval.specs.Carry.{carry, profile}
 use Rattle.retrieval.specs.CarryLaws.{due-carry}

@@ -10,8 +10,9 @@ use borrow.Author.Tests.{leb-true, le-leb}
 use lib.ListN.{getD}
 use lib.Dec.{leb}
 use Rattle.laws.specs.Tests.{left, right, join}
+use Rattle.laws.specs.Sums.{largest}
 use Rattle.retrieval.specs.Tests.{same-test, test-false}
-use Rattle.retrieval.specs.Schedule.{sends, largest, Schedule, peak}
+use Rattle.retrieval.specs.Schedule.{sends, Schedule, peak}
 use Rattle.retrieval.specs.JustInTime.{justInTime, existsBy}
 use Rattle.retrieval.specs.LeastReserve.{Serves, Least, servesBy, leastBy, firstFrom, leastReserve}
 use Rattle.retrieval.specs.Carry.{carry, profile}

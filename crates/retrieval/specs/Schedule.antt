@@ -3,21 +3,14 @@
 -- `getD (a ∷ l) t 0` what it has for round t - 1, with a for the round -1.
 use mathlib.Core.Path.{_≡_}
 use mathlib.Core.List.{List, [], _∷_, _++_}
-use Prim.Native.Nat.{ℕ, _+_, _-_, _≤_, _<_, max}
+use Prim.Native.Nat.{ℕ, _+_, _-_, _≤_, _<_}
 use lib.ListN.{length, getD, replicate}
+use Rattle.laws.specs.Sums.{sum, largest}
 
 -- "A film with n rounds and p pre-fetch rounds occupies rounds 0 to p+n-1 counted from its start. It sends nothing in its
 -- first p rounds and then its sizes in order."
 abbrev pub sends : ℕ → List ℕ → List ℕ
 sends p sizes = replicate p 0 ++ sizes
-
-abbrev pub sum : List ℕ → ℕ
-sum [] = 0
-sum (x ∷ xs) = x + sum xs
-
-abbrev pub largest : List ℕ → ℕ
-largest [] = 0
-largest (x ∷ xs) = max x (largest xs)
 
 -- "C(t) is the bytes sent in rounds 0 to t": the list of them, where c were sent before
 abbrev pub totals : ℕ → List ℕ → List ℕ

@@ -7,8 +7,8 @@ use native.Mathlib.Omega.{arith}
 use lib.ListN.{length, getD, set, take, drop, replicate}
 use lib.Seq.{slice, length-slice, getD-take, getD-drop, take-all}
 use Rattle.limits.specs.Bounds.{maxBookings}
+use Rattle.laws.specs.Sums.{largest}
 use Rattle.films.specs.Sizes.{Stored}
-use Rattle.retrieval.specs.Schedule.{largest}
 use Rattle.retrieval.specs.Carry.{carry, profile}
 use Rattle.retrieval.specs.CarryLaws.{getD-largest}
 use Rattle.retrieval.specs.Stored.{sendsAt, InRange, maxHeld, length-sendsAt, length-profile, profile-small, turn-held, drop-all}

@@ -6,8 +6,9 @@ use native.Mathlib.Nat.{not-suc-le-zero, le-of-suc-le-suc}
 use native.Mathlib.Omega.{arith}
 use lib.ListN.{length, getD, drop, drop-of-length-le}
 use Rattle.limits.specs.Bounds.{maxRounds, maxSize, maxPrefetch, maxReserve}
+use Rattle.laws.specs.Sums.{largest}
 use Rattle.films.specs.Sizes.{size, sizes, Stored}
-use Rattle.retrieval.specs.Schedule.{sends, largest}
+use Rattle.retrieval.specs.Schedule.{sends}
 use Rattle.retrieval.specs.Carry.{carry, profile}
 use Rattle.retrieval.specs.CarryLaws.{carry-drop, profile-at, peak-drop, largest-drop, profile-bound, prefetch-peak, getD-largest}
 

@@ -7,7 +7,8 @@ use mathlib.Core.List.{List, _∷_}
 use Prim.Native.Nat.{ℕ, suc, _-_, _*_, _≤_, _<_, max}
 use native.Mathlib.Omega.{arith}
 use lib.ListN.{length, getD}
-use Rattle.retrieval.specs.Schedule.{sends, largest, totals, Schedule, helds}
+use Rattle.laws.specs.Sums.{largest}
+use Rattle.retrieval.specs.Schedule.{sends, totals, Schedule, helds}
 use Rattle.retrieval.specs.JustInTime.{justInTime, existsBy}
 use Rattle.retrieval.specs.LeastReserve.{Least, leastReserve}
 use Rattle.retrieval.specs.CarryLaws.{justInTime-helds, profile-mono}

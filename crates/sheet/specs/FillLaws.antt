@@ -13,7 +13,7 @@ use borrow.Author.Count.{below-more}
 use borrow.Author.Tests.{le-leb, leb-true, leb-false, eq-eqb, ne-eqb}
 use Rattle.limits.specs.Bounds.{maxBookings}
 use Rattle.laws.specs.Tests.{all, below}
-use Rattle.retrieval.specs.Schedule.{largest}
+use Rattle.laws.specs.Sums.{largest}
 use Rattle.retrieval.specs.Carry.{carry}
 use Rattle.retrieval.specs.JustInTime.{due, existsBy}
 use Rattle.retrieval.specs.CarryLaws.{due-carry}

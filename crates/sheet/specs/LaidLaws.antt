@@ -8,7 +8,7 @@ use native.Mathlib.Omega.{arith}
 use lib.ListN.{length, getD, take, drop, replicate, length-append, length-replicate, length-drop}
 use lib.Seq.{ext-getD, take-at, drop-at, length-take-le, getD-take}
 use Rattle.limits.specs.Bounds.{maxBookings, maxReserve}
-use Rattle.retrieval.specs.Schedule.{largest}
+use Rattle.laws.specs.Sums.{largest}
 use Rattle.retrieval.specs.Stored.{maxHeld, held-bound}
 use Rattle.model.specs.Calls.{perRound, workedOut}
 use Rattle.model.specs.PlacesLaws.{length-perRound, perRound-same}

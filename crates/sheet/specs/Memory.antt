@@ -7,7 +7,7 @@ use lib.ListN.{length, getD, take}
 use lib.Dec.{leb}
 use Rattle.limits.specs.Bounds.{maxBookings}
 use Rattle.laws.specs.Tests.{below}
-use Rattle.retrieval.specs.Schedule.{largest}
+use Rattle.laws.specs.Sums.{largest}
 use Rattle.retrieval.specs.JustInTime.{existsBy}
 use Rattle.retrieval.specs.Stored.{maxHeld}
 use Rattle.load.specs.Stream.{noStream, sendsOf, holdsIn, heldIn, carryFrom}

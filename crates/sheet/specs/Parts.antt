@@ -10,7 +10,7 @@ use lib.Dec.{leb}
 use borrow.Author.Tests.{leb-true, leb-false, le-leb, lt-leb}
 use borrow.Rule.Slice.PartMut.{midOf, putMid}
 use Rattle.laws.specs.Parts.{tail-part, tail-back}
-use Rattle.retrieval.specs.Schedule.{largest}
+use Rattle.laws.specs.Sums.{largest}
 use Rattle.retrieval.specs.Sheet.{plus}
 use Rattle.retrieval.specs.SheetLaws.{plus-at, length-plus, largest-plus, largest-part}
 

@@ -7,7 +7,7 @@ use mathlib.Core.List.{List}
 use Prim.Native.Nat.{ℕ, _+_, _^_, _≤_, _<_}
 use lib.ListN.{length, getD, take, replicate}
 use Rattle.limits.specs.Bounds.{maxBookings, maxReserve}
-use Rattle.retrieval.specs.Schedule.{largest}
+use Rattle.laws.specs.Sums.{largest}
 use Rattle.retrieval.specs.Stored.{maxHeld}
 use Rattle.model.specs.Calls.{perRound, workedOut}
 use Rattle.load.specs.Stream.{lengthOf, endOf, openIn, profileOf, holdsIn, openCount, reservedIn, heldIn}

@@ -11,8 +11,8 @@ use lib.ListN.{length, getD, set, take, replicate, length-replicate, getD-replic
 use lib.Seq.{ext-getD}
 use borrow.Rule.Slice.PartMut.{midOf, putMid}
 use Rattle.laws.specs.Parts.{tail-part, tail-length}
+use Rattle.laws.specs.Sums.{largest}
 use Rattle.limits.specs.Bounds.{maxBookings, maxReserve}
-use Rattle.retrieval.specs.Schedule.{largest}
 use Rattle.retrieval.specs.Stored.{maxHeld, profile-small, drop-all, length-sendsAt}
 use Rattle.retrieval.specs.Sheet.{plus, Adds}
 use Rattle.retrieval.specs.Sheet as retrieval-sheet

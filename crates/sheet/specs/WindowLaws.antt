@@ -9,7 +9,7 @@ use lib.ListN.{length, getD, drop, List·getD-eq-default}
 use lib.Seq.{slice, length-slice}
 use borrow.Rule.Slice.PartMut.{midOf, putMid}
 use Rattle.laws.specs.Parts.{tail-part, tail-length}
-use Rattle.retrieval.specs.Schedule.{largest}
+use Rattle.laws.specs.Sums.{largest}
 use Rattle.retrieval.specs.Carry.{carry}
 use Rattle.retrieval.specs.Stored.{length-sendsAt, length-profile, drop-all}
 use Rattle.retrieval.specs.Sheet.{plus, Adds}

@@ -5,8 +5,8 @@ use Prim.Native.Nat.{_≤_, _-_}
 use native.Mathlib.Omega.{arith}
 use borrow.Author.Needs.{needs}
 use lib.ListN.{drop}
+use Rattle.laws.specs.Sums.{largest}
 use Rattle.films.specs.Sizes.{sizes}
-use Rattle.retrieval.specs.Schedule.{largest}
 use Rattle.retrieval.specs.Carry.{carry, profile}
 use Rattle.retrieval.specs.CarryLaws.{justInTime-helds, prefetch-peak}
 use Rattle.retrieval.specs.Stored.{sendsAt, maxHeld, length-sizes, sizes-at, size-small, drop-sizes, turn-held, turn-carry, turn-peak, held-bound}

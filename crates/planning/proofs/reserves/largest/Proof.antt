@@ -5,8 +5,8 @@ use Prim.Native.Nat.{_≤_, _-_}
 use native.Mathlib.Omega.{arith}
 use borrow.Author.Needs.{needs}
 use lib.ListN.{drop}
+use Rattle.laws.specs.Sums.{largest}
 use Rattle.films.specs.Sizes.{sizes}
-use Rattle.retrieval.specs.Schedule.{largest}
 use Rattle.retrieval.specs.Stored.{length-sizes, sizes-at, drop-sizes, turn-largest}
 use Rattle.planning.proofs.reserves.largest.Statement.{statement}
 use Rattle.planning.proofs.reserves.largest.Tie as tie

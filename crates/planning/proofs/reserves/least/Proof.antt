@@ -5,8 +5,9 @@ use native.Mathlib.Omega.{arith}
 use borrow.Author.Needs.{needs}
 use Rattle.limits.specs.Refusals.{prefetchBound, capBound}
 use Rattle.laws.specs.Questions.{refusal}
+use Rattle.laws.specs.Sums.{largest}
 use Rattle.films.specs.Sizes.{sizes}
-use Rattle.retrieval.specs.Schedule.{sends, largest}
+use Rattle.retrieval.specs.Schedule.{sends}
 use Rattle.retrieval.specs.LeastReserve.{Serves, leastReserve}
 use Rattle.retrieval.specs.ReserveLaws.{largest-serves, least-unique, leastReserve-least}
 use Rattle.retrieval.specs.Stored.{largest-small}

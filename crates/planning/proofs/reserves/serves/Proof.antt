@@ -6,8 +6,8 @@ use native.Mathlib.Nat.{mul-le-mul}
 use native.Mathlib.Omega.{arith}
 use borrow.Author.Needs.{needs}
 use lib.ListN.{drop}
+use Rattle.laws.specs.Sums.{largest}
 use Rattle.films.specs.Sizes.{sizes}
-use Rattle.retrieval.specs.Schedule.{largest}
 use Rattle.retrieval.specs.Carry.{carry, profile}
 use Rattle.retrieval.specs.ReserveLaws.{servesBy-over, servesBy-test}
 use Rattle.retrieval.specs.Stored.{maxHeld, length-sizes, sizes-at, size-small, drop-sizes, turn-held, turn-carry, turn-peak, held-bound}

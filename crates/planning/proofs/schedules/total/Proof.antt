@@ -6,8 +6,8 @@ use native.Mathlib.Omega.{arith}
 use borrow.Author.Needs.{needs}
 use lib.ListN.{drop}
 use Rattle.limits.specs.Bounds.{maxSize}
+use Rattle.laws.specs.Sums.{sum}
 use Rattle.films.specs.Sizes.{sizes}
-use Rattle.retrieval.specs.Schedule.{sum}
 use Rattle.retrieval.specs.Stored.{length-sizes, sizes-at, size-small, drop-sizes}
 use Rattle.planning.specs.Written.{turn-sum}
 use Rattle.planning.proofs.schedules.total.Statement.{statement}

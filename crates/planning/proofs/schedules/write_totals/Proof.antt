@@ -6,8 +6,9 @@ use Prim.Native.Nat.{ℕ, _≤_, _<_, _-_, _+_, max}
 use native.Mathlib.Omega.{arith}
 use borrow.Author.Needs.{needs}
 use lib.ListN.{length, getD, length-set}
+use Rattle.laws.specs.Sums.{sum}
 use Rattle.films.specs.Sizes.{sizes}
-use Rattle.retrieval.specs.Schedule.{sum, totals}
+use Rattle.retrieval.specs.Schedule.{totals}
 use Rattle.retrieval.specs.JustInTime.{justInTime}
 use Rattle.retrieval.specs.CarryLaws.{length-justInTime}
 use Rattle.retrieval.specs.Stored.{sendsAt, length-sendsAt}
