@@ -1,20 +1,19 @@
 -- Booking's own questions, over the stream of the request: the same as the model's of the record. Assumes nothing.
-use mathlib.Core.Path.{_≡_, refl, sym, ap, _∙_}
+use mathlib.Core.Path.{_≡_, refl, sym, _∙_}
 use mathlib.Core.Bool.{Bool, true, false, not, _&&_}
 use mathlib.Core.List.{List, [], _∷_, _++_}
-use Prim.Native.Nat.{ℕ, zero, suc, _+_, _≤_, _<_}
+use Prim.Native.Nat.{ℕ, _+_, _≤_}
 use native.Mathlib.Omega.{arith}
-use lib.ListN.{length, take}
+use lib.ListN.{take}
 use lib.Dec.{leb, ltb, eqb}
 use borrow.Author.Tests.{leb-true}
-use Rattle.laws.specs.Questions.{Question, refusal, orElse, Numbered, refusal-append, refusal-held}
+use Rattle.laws.specs.Questions.{Question, refusal, orElse, orElse-first, Numbered, refusal-append, refusal-held}
 use Rattle.limits.specs.Bounds.{maxPrefetch, maxReserve, maxBookings}
 use Rattle.limits.specs.Refusals.{noFilm, prefetchBound, reserveBound, noSchedule, listFull, nameTaken, noCab, windowBound}
 use Rattle.films.specs.Questions.{verdict}
 use Rattle.films.specs.Catalogue.{catalogueOf}
-use Rattle.films.specs.Layout.{sizesOf}
 use Rattle.retrieval.specs.JustInTime.{existsBy}
-use Rattle.model.specs.Day.{Setting, recordOf, ends, exists}
+use Rattle.model.specs.Day.{recordOf, exists}
 use Rattle.model.specs.Questions.{hasName, recordQuestions, windowOpen, bookOwn}
 use Rattle.model.specs.declared.Booking.{Booking}
 use Rattle.model.specs.declared.Request.{Request}
@@ -109,10 +108,6 @@ module _ (f : List ℕ) (day : Day) (accepted : verdict f ≡ 0) (q : Request) w
 
 -- ---- the number, question by question
 
-or-else-no : (n m : ℕ) → (n ≡ 0 → ⊥) → orElse n m ≡ n
-or-else-no zero m h = absurd (h refl)
-or-else-no (suc n) m h = refl
-
 module _ (f : List ℕ) (day : Day) (rows : List Booking) (places : ℕ) (q : Request) where
   pub own-taken : hasName (q .name) (take (day .count) rows) ≡ true → refusal (ownAsks f day rows places q) ≡ nameTaken
   unfolding ownAsks
@@ -127,7 +122,7 @@ module _ (f : List ℕ) (day : Day) (rows : List Booking) (places : ℕ) (q : Re
 
     pub own-refused : (n : ℕ) → n ≡ refusal (streamAsks f (requestOf f q)) → (n ≡ 0 → ⊥) → refusal (ownAsks f day rows places q) ≡ n
     own-refused n e h =
-        after-name ∙ or-else-no (refusal (streamAsks f (requestOf f q))) _ (λ z. h (e ∙ z)) ∙ sym e
+        after-name ∙ orElse-first (refusal (streamAsks f (requestOf f q))) _ (λ z. h (e ∙ z)) ∙ sym e
 
     module _ (passed : refusal (streamAsks f (requestOf f q)) ≡ 0) where
       pub own-window : windowHolds day q (requestOf f q) ≡ false → refusal (ownAsks f day rows places q) ≡ windowBound

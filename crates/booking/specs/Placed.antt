@@ -12,7 +12,7 @@ use borrow.Author.Tests.{eq-eqb, leb-true}
 use Rattle.limits.specs.Bounds.{maxBookings, maxDay, maxPrefetch, maxReserve}
 use Rattle.limits.specs.Refusals.{noStart}
 use Rattle.laws.specs.Tests.{left, right, all}
-use Rattle.laws.specs.Questions.{refusal}
+use Rattle.laws.specs.Questions.{refusal, both-held}
 use Rattle.laws.specs.Words.{Bytes}
 use Rattle.films.specs.Questions.{verdict}
 use Rattle.films.specs.Catalogue.{catalogueOf}
@@ -42,6 +42,7 @@ use Rattle.search.specs.declared.Found.{Found}
 use Rattle.search.specs.declared.Found.the-variants.{At, Nowhere}
 use Rattle.questions.specs.Given.{settingAt}
 use Rattle.questions.specs.Numbers.{roundsHold, dayHolds, limitsHold, sheetHolds, soundHolds, standingAsks}
+use Rattle.questions.specs.Standing.{Standing, standing-held, standing-numbered, standing-after}
 use Rattle.questions.specs.Tied.{Tied, AllTied, tied-rounds, tied-ends}
 use Rattle.questions.specs.Ties.{stream-tied}
 use Rattle.questions.specs.Sound.{streamsSound, sound-streams}
@@ -49,7 +50,6 @@ use Rattle.questions.specs.ListSound.{all-tied-taken, length-streams, list-soun
 use Rattle.questions.specs.Start.{sheetQuery, first-query}
 use Rattle.booking.specs.Contract.{Leaves, bookAsks}
 use Rattle.booking.specs.Own.{requestOf, request-tied}
-use Rattle.booking.specs.Standing.{Standing, both-held, standing-held, standing-numbered, standing-after}
 use Rattle.booking.specs.Place.{film-small, SheetOf, laid-sheet, laid-window}
 
 -- the code's questions are the model's

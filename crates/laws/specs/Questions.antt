@@ -1,5 +1,5 @@
 -- Questions in a fixed order: the first "no" gives the number, and no other does. Assumes nothing.
-use mathlib.Core.Path.{_≡_, refl}
+use mathlib.Core.Path.{_≡_, refl, sym, _∙_}
 use mathlib.Core.Bool.{Bool, true, false, cond, _&&_}
 use mathlib.Core.List.{List, [], _∷_, _++_}
 use Prim.Native.Nat.{ℕ, zero, suc, _<_}
@@ -59,6 +59,10 @@ abbrev pub orElse : ℕ → ℕ → ℕ
 orElse zero n = n
 orElse (suc k) n = suc k
 
+pub orElse-first : (n m : ℕ) → (n ≡ 0 → ⊥) → orElse n m ≡ n
+orElse-first zero m h = absurd (h refl)
+orElse-first (suc n) m h = refl
+
 -- a "no" gives a number, and not 0
 abbrev pub Numbered : List Question → Type 0
 Numbered [] = Unit {0}
@@ -76,3 +80,11 @@ refusal-append (q ∷ qs) rs n = go (q .0) (n .0) (refusal-append qs rs (n .1))
         → cond b (refusal (qs ++ rs)) (q .1) ≡ orElse (cond b (refusal qs) (q .1)) (refusal rs)
     go true h e = e
     go false h e = number (q .1) (h refl)
+
+-- of two lists with no "no", neither has one
+pub both-held : (qs rs : List Question) → Numbered qs → refusal (qs ++ rs) ≡ 0 → (refusal qs ≡ 0) × (refusal rs ≡ 0)
+both-held qs rs n e = go (refusal qs) refl (sym (refusal-append qs rs n) ∙ e)
+  where
+    go : (k : ℕ) → refusal qs ≡ k → orElse k (refusal rs) ≡ 0 → (refusal qs ≡ 0) × (refusal rs ≡ 0)
+    go zero u v = (u, v)
+    go (suc k) u v = absurd (omega arith)

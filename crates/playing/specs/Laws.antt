@@ -1,26 +1,21 @@
 -- The number of play's questions, and a round that is refused or played. Assumes nothing.
 use mathlib.Core.Path.{_≡_, refl, sym, ap, ap₂, _∙_}
-use mathlib.Core.Bool.{Bool, true, false, cond, _&&_}
 use mathlib.Core.List.{List, [], _∷_}
-use Prim.Native.Nat.{ℕ, zero, suc, _+_, _<_}
+use Prim.Native.Nat.{ℕ, zero, suc, _+_}
 use native.Mathlib.Omega.{arith}
 use native.Mathlib.Numerals.{add-one}
 use lib.ListN.{length, take}
 use lib.Dec.{leb, ltb, eqb}
 use lib.Count.{ones}
-use borrow.Author.Tests.{le-leb, leb-true, eqb-true, eqb-false}
-use Rattle.limits.specs.Bounds.{maxBookings}
+use borrow.Author.Tests.{le-leb}
 use Rattle.limits.specs.Refusals.{noRoom, dayRounds, dayLimits, unsound, dayOver}
-use Rattle.laws.specs.Tests.{left, right}
-use Rattle.laws.specs.Questions.{Question, refusal, refusal-held, refusal-append, orElse, Numbered}
+use Rattle.laws.specs.Questions.{Question, refusal, refusal-append, orElse, orElse-first, Numbered}
 use Rattle.films.specs.Questions.{verdict}
 use Rattle.films.specs.Catalogue.{catalogueOf}
 use Rattle.films.specs.declared.types.Catalogue.{Catalogue}
 use Rattle.model.specs.Day.{Setting}
 use Rattle.model.specs.Report.{linesOf, written}
 use Rattle.model.specs.Questions.{playOwn}
-use Rattle.model.specs.Soundness.{soundList}
-use Rattle.model.specs.SoundLaws.{file-held, sound-says}
 use Rattle.model.specs.Calls.{Outcome, atRound, dayInRange, roundsInRange, limitsInRange, sound, playQuestions, playWith, playCall, cabsJoined}
 use Rattle.model.specs.Code.{stateOf, dayOf}
 use Rattle.model.specs.PlayLaws.{lines-count}
@@ -29,7 +24,8 @@ use Rattle.model.specs.declared.Day.{Day}
 use Rattle.model.specs.declared.Line.{Line}
 use Rattle.model.specs.declared.Answer.the-variants.{Played}
 use Rattle.questions.specs.Given.{settingAt}
-use Rattle.questions.specs.Numbers.{roundsHold, dayHolds, limitsHold, sheetHolds, soundHolds, standingAsks, day-rounds-small}
+use Rattle.questions.specs.Numbers.{roundsHold, dayHolds, limitsHold, sheetHolds, soundHolds, standingAsks}
+use Rattle.questions.specs.Standing.{standing-held, verdict-numbered}
 use Rattle.playing.specs.Lines.{padded}
 use Rattle.playing.specs.Contract.{refusedAs, playedAs, played, Plays}
 use Rattle.playing.specs.Ready.{Ready}
@@ -68,13 +64,7 @@ module _ (f : List ℕ) (day : Day) (rows : List Booking) (places room : ℕ) wh
   first-standing = rw (le-leb (day .rounds) (day .rounds) (omega arith))
 
   numbered : Numbered first
-  numbered =
-      let v : eqb (verdict f) 0 ≡ false → 0 < verdict f = λ e. positive (verdict f) (eqb-false (verdict f) 0 e) in
-      (v, (λ e. omega arith, (λ e. omega arith, (λ e. omega arith, tt))))
-    where
-      positive : (n : ℕ) → (n ≡ 0 → ⊥) → 0 < n
-      positive zero h = absurd (h refl)
-      positive (suc n) h = omega arith
+  numbered = (verdict-numbered (verdict f), (λ e. omega arith, (λ e. omega arith, (λ e. omega arith, tt))))
 
   asked-after : playNumber ≡ orElse standingNumber (refusal (playOwn S bs (day .now) room))
   unfolding playQuestions dayInRange roundsInRange limitsInRange sound dayHolds roundsHold limitsHold soundHolds
@@ -84,11 +74,8 @@ module _ (f : List ℕ) (day : Day) (rows : List Booking) (places room : ℕ) wh
 
   -- a number of the questions up to 16 stands
   pub standing-first : (n : ℕ) → n ≡ standingNumber → (n ≡ 0 → ⊥) → playNumber ≡ n
-  standing-first n e h = asked-after ∙ ap (λ (m : ℕ). orElse m (refusal (playOwn S bs (day .now) room))) (sym e) ∙ number n h
-    where
-      number : (m : ℕ) → (m ≡ 0 → ⊥) → orElse m (refusal (playOwn S bs (day .now) room)) ≡ m
-      number zero k = absurd (k refl)
-      number (suc m) k = refl
+  standing-first n e h =
+      asked-after ∙ orElse-first standingNumber (refusal (playOwn S bs (day .now) room)) (λ z. h (e ∙ z)) ∙ sym e
 
   -- with none, 23 and 11 decide
   pub own-after : (films : ℕ) → 0 ≡ standingNumber → films ≡ length (linesOf S (day .now) bs)
@@ -101,38 +88,9 @@ module _ (f : List ℕ) (day : Day) (rows : List Booking) (places room : ℕ) wh
 
   -- and the bookings stand
   pub standing-ready : (c : Catalogue) → c ≡ catalogueOf f → 0 ≡ standingNumber → Ready f c day rows
-  unfolding soundHolds dayHolds
   standing-ready c made e =
-      let q16 : List Question = (soundHolds f day rows places, unsound) ∷ [] in
-      let q15 : List Question = (limitsHold (day .disk) (day .memory), dayLimits) ∷ q16 in
-      let q14 : List Question = (dayHolds day, dayRounds) ∷ q15 in
-      let none : refusal first ≡ 0 = first-standing ∙ sym e in
-      let a14 = refusal-held (dayHolds day) dayRounds q15 (omega arith) (file-held S q14 none) in
-      let a15 = refusal-held (limitsHold (day .disk) (day .memory)) dayLimits q16 (omega arith) (a14 .1) in
-      let a16 = refusal-held (soundHolds f day rows places) unsound [] (omega arith) (a15 .1) in
-      let within = right (leb (day .count) maxBookings) (a16 .0) in
-      record {
-        made = made;
-        accepted = accepted none;
-        few = leb-true _ _ (left (leb (day .count) maxBookings) (leb (day .count) places && soundList S bs) (a16 .0));
-        short = day-rounds-small day (a14 .0);
-        today = leb-true _ _ (right (roundsHold (day .rounds)) (a14 .0));
-        sound = sound-says S bs (right (leb (day .count) places) within);
-      }
-    where
-      accepted : refusal first ≡ 0 → verdict f ≡ 0
-      accepted u = go (eqb (verdict f) 0) refl u
-        where
-          rest : List Question
-          rest =
-              (dayHolds day, dayRounds)
-              ∷ (limitsHold (day .disk) (day .memory), dayLimits)
-              ∷ (soundHolds f day rows places, unsound)
-              ∷ []
-
-          go : (v : Bool) → eqb (verdict f) 0 ≡ v → cond v (refusal rest) (verdict f) ≡ 0 → verdict f ≡ 0
-          go true w z = eqb-true (verdict f) 0 w
-          go false w z = z
+      let s = standing-held f day rows places (day .rounds) (day .rounds) (day .rounds) (sym e) in
+      record { made = made; accepted = s .accepted; few = s .few; short = s .rounds; today = s .today; sound = s .sound }
 
   -- the sheet has no part in the questions
   asked-of : (opens reserves helds : List ℕ) (report : List Line) → length report ≡ room

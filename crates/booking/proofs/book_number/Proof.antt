@@ -4,8 +4,8 @@ use Prim.Native.Nat.{ℕ}
 use native.Mathlib.Omega.{arith}
 use borrow.Author.Needs.{needs}
 use Rattle.laws.specs.Questions.{refusal}
+use Rattle.questions.specs.Standing.{standing-held, standing-first, standing-after}
 use Rattle.booking.specs.Own.{own-same}
-use Rattle.booking.specs.Standing.{standing-held, standing-first, standing-after}
 use Rattle.booking.proofs.book_number.Statement.{statement}
 use Rattle.booking.proofs.book_number.Tie as tie
 

@@ -3,7 +3,7 @@
 use mathlib.Core.Path.{refl}
 use native.Mathlib.Omega.{arith}
 use borrow.Author.Needs.{needs}
-use Rattle.dropping.specs.Laws.{standing-held, standing-refused, name-refused, rest-stands, accepted-drops}
+use Rattle.dropping.specs.Laws.{stands, standing-refused, name-refused, rest-stands, accepted-drops}
 use Rattle.dropping.proofs.drop_booking.Statement.{statement}
 use Rattle.dropping.proofs.drop_booking.Tie as tie
 
@@ -24,7 +24,7 @@ position-requires : tie.Need-position-requires
 position-requires c κs =
     let number = c .before .standing-number in
     let a = c .before .before .before .before .before .before .before .args in
-    standing-held (a .file .now) (a .day) (a .rows) (a .places) (a .opens .now) (a .reserves .now) (a .helds .now) (number .result)
+    stands (a .file .now) (a .day) (a .rows) (a .places) (a .opens .now) (a .reserves .now) (a .helds .now) (number .result)
     (number .ensures) (c .if1 .left) .few
 
 returns-2 : tie.Need-returns-2
@@ -42,7 +42,7 @@ close-gap-requires c κs =
     let left = at .before in
     let number = left .before .standing-number in
     let a = left .before .before .before .before .before .before .before .args in
-    let held = standing-held (a .file .now) (a .day) (a .rows) (a .places) (a .opens .now) (a .reserves .now) (a .helds .now) (number .result)
+    let held = stands (a .file .now) (a .day) (a .rows) (a .places) (a .opens .now) (a .reserves .now) (a .helds .now) (number .result)
     (number .ensures) (left .if1 .left) in
     (omega (arith, at .position .ensures .within, c .if2 .left), held .few)
 
@@ -59,7 +59,7 @@ lay-standing-requires c κs =
     let read = left .before .before in
     let start = read .before .before .before .before .before in
     let a = start .args in
-    let held = standing-held (a .file .now) (a .day) (a .rows) (a .places) (a .opens .now) (a .reserves .now) (a .helds .now) (number .result)
+    let held = stands (a .file .now) (a .day) (a .rows) (a .places) (a .opens .now) (a .reserves .now) (a .helds .now) (number .result)
     (number .ensures) (left .if1 .left) in
     rest-stands (a .file .now) (a .day) (a .rows) (a .places) (a .opens .now) (a .reserves .now) (a .helds .now) (number .result)
     (number .ensures) (a .name) (left .if1 .left) (at .position .result) (at .position .ensures) (found .if2 .left) (omega (arith, held .few, start))
@@ -87,7 +87,7 @@ returns-3 c =
     let number = left .before .standing-number in
     let start = left .before .before .before .before .before .before .before in
     let a = start .args in
-    let held = standing-held (a .file .now) (a .day) (a .rows) (a .places) (a .opens .now) (a .reserves .now) (a .helds .now) (number .result)
+    let held = stands (a .file .now) (a .day) (a .rows) (a .places) (a .opens .now) (a .reserves .now) (a .helds .now) (number .result)
     (number .ensures) (left .if1 .left) in
     let after = laid .lay-standing .last .1 .1 .1 .1 .1 in
     accepted-drops (a .file .now) (a .day) (a .rows) (a .places) (a .opens .now) (a .reserves .now) (a .helds .now) (number .result)

@@ -1,14 +1,14 @@
--- What holds where the questions before booking's own have passed. Assumes nothing.
+-- What holds where the questions up to 16 have passed, which every call but opening asks before its own. Assumes nothing.
 use mathlib.Core.Path.{_≡_, refl, sym, _∙_}
-use mathlib.Core.Bool.{Bool, true, false, _&&_}
+use mathlib.Core.Bool.{true, false, _&&_}
 use mathlib.Core.List.{List, [], _∷_, _++_}
 use Prim.Native.Nat.{ℕ, zero, suc, _≤_, _<_}
 use native.Mathlib.Omega.{arith}
-use lib.ListN.{length, take}
+use lib.ListN.{take}
 use lib.Dec.{leb, eqb}
 use borrow.Author.Tests.{leb-true, ne-eqb}
 use Rattle.laws.specs.Tests.{left, right}
-use Rattle.laws.specs.Questions.{Question, refusal, orElse, Numbered, refusal-append, refusal-held}
+use Rattle.laws.specs.Questions.{Question, refusal, orElse-first, Numbered, refusal-append, refusal-held}
 use Rattle.limits.specs.Bounds.{maxBookings, maxDay}
 use Rattle.limits.specs.Refusals.{dayRounds, dayLimits, noRoom, unsound}
 use Rattle.films.specs.Questions.{verdict}
@@ -16,12 +16,13 @@ use Rattle.model.specs.Soundness.{soundList}
 use Rattle.model.specs.SoundLaws.{Sound, sound-says}
 use Rattle.model.specs.declared.Booking.{Booking}
 use Rattle.model.specs.declared.Day.{Day}
 use Rattle.questions.specs.Given.{settingAt}
-use Rattle.questions.specs.Numbers.{dayHolds, limitsHold, sheetHolds, soundHolds, standingAsks, day-rounds-small}
+use Rattle.questions.specs.Numbers.{roundsHold, dayHolds, limitsHold, sheetHolds, soundHolds, standingAsks, day-rounds-small}
 
 pub record Standing (f : List ℕ) (day : Day) (rows : List Booking) (places o r h : ℕ) : Type 0 where
   pub accepted : verdict f ≡ 0
   pub rounds : day .rounds ≤ maxDay
+  pub today : day .now ≤ day .rounds
   pub opens : day .rounds ≤ o
   pub reserves : day .rounds ≤ r
   pub helds : day .rounds ≤ h
@@ -36,21 +37,13 @@ verdict-held (suc v) qs e =
     let w : suc v ≡ 0 = rw z at e in
     absurd (omega arith)
 
-verdict-numbered : (v : ℕ) → eqb v 0 ≡ false → 0 < v
+pub verdict-numbered : (v : ℕ) → eqb v 0 ≡ false → 0 < v
 verdict-numbered zero e = let z : _≡_ {A = ℕ} 0 1 = cc in absurd (omega arith)
 verdict-numbered (suc v) e = omega arith
 
--- of two lists with no "no", neither has one
-pub both-held : (qs rs : List Question) → Numbered qs → refusal (qs ++ rs) ≡ 0 → (refusal qs ≡ 0) × (refusal rs ≡ 0)
-both-held qs rs n e = go (refusal qs) refl (sym (refusal-append qs rs n) ∙ e)
-  where
-    go : (k : ℕ) → refusal qs ≡ k → orElse k (refusal rs) ≡ 0 → (refusal qs ≡ 0) × (refusal rs ≡ 0)
-    go zero u v = (u, v)
-    go (suc k) u v = absurd (omega arith)
-
 module _ (f : List ℕ) (day : Day) (rows : List Booking) (places opens reserves helds : ℕ) where
   pub standing-held : refusal (standingAsks f day rows places opens reserves helds) ≡ 0 → Standing f day rows places opens reserves helds
-  unfolding standingAsks sheetHolds soundHolds
+  unfolding standingAsks dayHolds sheetHolds soundHolds
   standing-held e =
       let q16 : List Question = (soundHolds f day rows places, unsound) ∷ [] in
       let q11 : List Question = (sheetHolds (day .rounds) opens reserves helds, noRoom) ∷ q16 in
@@ -72,6 +65,7 @@ module _ (f : List ℕ) (day : Day) (rows : List Booking) (places opens reserves
       record {
         accepted = a1 .0;
         rounds = day-rounds-small day (a14 .0);
+        today = leb-true (day .now) (day .rounds) (right (roundsHold (day .rounds)) (a14 .0));
         opens = leb-true (day .rounds) opens (left o (r && h) (a11 .0));
         reserves = leb-true (day .rounds) reserves (left r h rh);
         helds = leb-true (day .rounds) helds (right r rh);
@@ -89,12 +83,9 @@ module _ (f : List ℕ) (day : Day) (rows : List Booking) (places opens reserves
   pub standing-first : (rs : List Question) (n : ℕ) → n ≡ refusal (standingAsks f day rows places opens reserves helds) → (n ≡ 0 → ⊥)
       → refusal (standingAsks f day rows places opens reserves helds ++ rs) ≡ n
   standing-first rs n e h =
-      refusal-append (standingAsks f day rows places opens reserves helds) rs standing-numbered ∙ first n e h
-    where
-      first : (m : ℕ) → m ≡ refusal (standingAsks f day rows places opens reserves helds) → (m ≡ 0 → ⊥)
-          → orElse (refusal (standingAsks f day rows places opens reserves helds)) (refusal rs) ≡ m
-      first zero d k = absurd (k refl)
-      first (suc m) d k = rw (sym d)
+      refusal-append (standingAsks f day rows places opens reserves helds) rs standing-numbered
+      ∙ orElse-first (refusal (standingAsks f day rows places opens reserves helds)) (refusal rs) (λ z. h (e ∙ z))
+      ∙ sym e
 
   pub standing-after : (rs : List Question) → refusal (standingAsks f day rows places opens reserves helds) ≡ 0
       → refusal (standingAsks f day rows places opens reserves helds ++ rs) ≡ refusal rs
