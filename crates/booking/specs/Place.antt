@@ -1,12 +1,10 @@
--- The start of a request, and the sheet with one booking more. Assumes nothing.
-use mathlib.Core.Path.{_≡_, refl, sym, ap, ap₂, _∙_}
+-- What the search asks of a film and of the sheet. Assumes nothing.
+use mathlib.Core.Path.{_≡_, refl}
 use mathlib.Core.Bool.{Bool, true, false, cond, _||_}
-use mathlib.Core.List.{List, [], _∷_, _++_, map}
-use Prim.Native.Nat.{ℕ, zero, suc, _+_, _-_, _*_, _^_, _≤_, _<_}
-use native.Mathlib.Nat.{mul-suc}
+use mathlib.Core.List.{List, [], _∷_}
+use Prim.Native.Nat.{ℕ, _+_, _-_, _^_, _≤_, _<_}
 use native.Mathlib.Omega.{arith}
-use lib.ListN.{length, getD, take, drop, length-map}
-use lib.Seq.{length-take-le, getD-take}
+use lib.ListN.{length, getD}
 use lib.Dec.{eqb}
 use borrow.Author.Tests.{eqb-true}
 use Rattle.limits.specs.Bounds.{maxBookings, maxReserve, maxDay}
@@ -16,17 +14,14 @@ use Rattle.films.specs.Questions.{verdict}
 use Rattle.films.specs.Decode.{filmsOf}
 use Rattle.films.specs.Theorems.{accepts, films-of}
 use Rattle.retrieval.specs.Stored.{maxHeld, held-bound}
-use Rattle.model.specs.Day.{Setting, opened, reserved, held}
-use Rattle.model.specs.Calls.{perRound, workedOut}
-use Rattle.model.specs.PlacesLaws.{perRound-same}
-use Rattle.model.specs.declared.Booking.{Booking}
-use Rattle.load.specs.Stream.{noStream, total, lengthOf, endOf, openIn, holdsIn, profileOf, openCount, reservedIn, heldIn}
-use Rattle.load.specs.Basic.{Playable, Within, EachOf}
+use Rattle.model.specs.Day.{reserved, held}
+use Rattle.load.specs.Stream.{noStream, lengthOf, openIn, holdsIn, profileOf, openCount, reservedIn, heldIn}
+use Rattle.load.specs.StreamLaws.{cond-most}
+use Rattle.load.specs.Basic.{Playable, EachOf}
 use Rattle.load.specs.declared.stream.Stream.{Stream}
 use Rattle.sheet.specs.Sheet.{Laid, Places}
-use Rattle.sheet.specs.LaidLaws.{worked-at, length-worked}
-use Rattle.search.specs.Fit.{Query, queryOf, DiskRows, HeldRows, EndInDay, Window}
-use Rattle.questions.specs.Tied.{AllTied, opened-tied, reserved-tied, held-tied}
+use Rattle.sheet.specs.LaidLaws.{total-most, worked-at, length-worked}
+use Rattle.search.specs.Fit.{queryOf, Window}
 
 -- ---- a film of an accepted file has a 16-bit number
 
@@ -43,34 +38,7 @@ film-small f b e k h =
     let o = accepts f b .0 e in
     each-small (o .films) k (o .valid .each) (rw (films-of f o) at h)
 
--- ---- the sheet of the streams is the sheet of the bookings
-
-pub record SheetOf (S : Setting) (bs : List Booking) (o₀ r₀ h₀ o r h : List ℕ) : Type 0 where
-  pub opens : o ≡ workedOut (S .rounds) (λ t. opened S t bs) o₀
-  pub reserves : r ≡ workedOut (S .rounds) (λ t. reserved S t bs) r₀
-  pub helds : h ≡ workedOut (S .rounds) (λ t. held S t bs) h₀
-
-worked-same : (T : ℕ) (g h : ℕ → ℕ) (old : List ℕ) → ((t : ℕ) → g t ≡ h t) → workedOut T g old ≡ workedOut T h old
-worked-same T g h old e = ap (λ (l : List ℕ). l ++ drop T old) (perRound-same g h e 0 T)
-
-pub laid-sheet : (S : Setting) (f : List ℕ) (bs : List Booking) (xs : List Stream) → AllTied S f bs xs
-    → (o₀ r₀ h₀ o r h : List ℕ) → Laid f xs (S .rounds) o₀ r₀ h₀ o r h → SheetOf S bs o₀ r₀ h₀ o r h
-laid-sheet S f bs xs tied o₀ r₀ h₀ o r h laid =
-    record {
-      opens = laid .films ∙ worked-same (S .rounds) _ _ o₀ (λ t. sym (opened-tied S f bs xs tied t));
-      reserves = laid .reserved ∙ worked-same (S .rounds) _ _ r₀ (λ t. sym (reserved-tied S f bs xs tied t));
-      helds = laid .held ∙ worked-same (S .rounds) _ _ h₀ (λ t. sym (held-tied S f bs xs tied t));
-    }
-
 -- ---- what the search asks, of a sheet that is laid
-
-total-most : (g : Stream → ℕ) (m : ℕ) (xs : List Stream) → ((i : ℕ) → i < length xs → g (getD xs i noStream) ≤ m) → total g xs ≤ m * length xs
-total-most g m [] f = omega arith
-total-most g m (x ∷ xs) f = omega (arith, f 0 (omega arith), total-most g m xs (λ i h. f (suc i) (omega arith)), mul-suc m (length xs))
-
-cond-most : (v : Bool) (a m : ℕ) → a ≤ m → cond v a 0 ≤ m
-cond-most true a m h = h
-cond-most false a m h = omega arith
 
 module _ (f : List ℕ) (xs : List Stream) (T : ℕ) (o₀ r₀ h₀ o r h : List ℕ) (laid : Laid f xs T o₀ r₀ h₀ o r h) (few : length xs < maxBookings)
     (good : EachOf (Playable f) (length xs) xs) (places : Places T o₀ r₀ h₀) (small : T ≤ maxDay) where

@@ -1,17 +1,16 @@
 -- A request whose questions but 22 have passed, placed: what the code's steps ask and give is what the model's call says.
 -- Assumes nothing.
 use mathlib.Core.Path.{_≡_, refl, sym, ap, _∙_, subst}
-use mathlib.Core.Bool.{true}
-use mathlib.Core.List.{List, [], _∷_, _++_, map}
+use mathlib.Core.List.{List, [], _∷_, _++_}
 use Prim.Native.Nat.{ℕ, zero, suc, _+_, _-_, _^_, _≤_, _<_}
 use native.Mathlib.Numerals.{add-one}
 use native.Mathlib.Omega.{arith}
-use lib.ListN.{length, getD, set, take}
+use lib.ListN.{length, set, take}
 use lib.Seq.{length-take-le, getD-take}
 use borrow.Author.Tests.{eq-eqb, leb-true}
 use Rattle.limits.specs.Bounds.{maxBookings, maxDay, maxPrefetch, maxReserve}
 use Rattle.limits.specs.Refusals.{noStart}
-use Rattle.laws.specs.Tests.{left, right, all}
+use Rattle.laws.specs.Tests.{all}
 use Rattle.laws.specs.Questions.{refusal, both-held}
 use Rattle.laws.specs.Words.{Bytes}
 use Rattle.films.specs.Questions.{verdict}
@@ -20,37 +19,33 @@ use Rattle.retrieval.specs.Stored.{InRange}
 use Rattle.model.specs.Day.{Setting, State, recordOf, exists, ends}
 use Rattle.model.specs.Fit as Fit
 use Rattle.model.specs.Fit.{firstOf}
-use Rattle.model.specs.Questions.{fileQuestion, bookOwn}
-use Rattle.model.specs.Calls.{standing, dayInRange, roundsInRange, limitsInRange, sheetLong, sound, bookQuestions, startOf, bookWith, bookCall}
-use Rattle.model.specs.Code.{stateOf, dayOf}
-use Rattle.model.specs.Soundness.{namesDiffer}
-use Rattle.model.specs.SoundLaws.{Sound, says-sound, Asked, asked, passed-at}
+use Rattle.model.specs.Calls.{dayInRange, roundsInRange, limitsInRange, sheetLong, sound, bookQuestions, startOf, bookWith, bookCall}
+use Rattle.model.specs.Code.{stateOf}
+use Rattle.model.specs.SoundLaws.{says-sound, Asked, asked, passed-at}
 use Rattle.model.specs.FirstFit.{Finds, search-finds}
 use Rattle.model.specs.declared.Booking.{Booking}
 use Rattle.model.specs.declared.Request.{Request}
 use Rattle.model.specs.declared.Day.{Day}
-use Rattle.model.specs.declared.Answer.{Answer}
 use Rattle.model.specs.declared.Answer.the-variants.{Refused, Booked}
-use Rattle.load.specs.Stream.{noStream, lengthOf, endOf, profileOf}
-use Rattle.load.specs.Streams.{streamOf, streamsOf}
-use Rattle.load.specs.Basic.{basicOf, Bounded, Playable, Within, EachOf}
+use Rattle.load.specs.Stream.{noStream, lengthOf, profileOf}
+use Rattle.load.specs.Streams.{streamsOf}
+use Rattle.load.specs.Basic.{Playable, Within, EachOf}
 use Rattle.load.specs.declared.stream.Stream.{Stream}
 use Rattle.sheet.specs.Sheet.{Laid, Lays, Places, Raises, Raised}
 use Rattle.sheet.specs.LaidLaws.{length-worked, laid-raises, laid-raised}
-use Rattle.search.specs.Fit.{Query, queryOf, startAt, fitsAt, answerOf, Window}
+use Rattle.search.specs.Fit.{queryOf, startAt, fitsAt, answerOf, Window}
 use Rattle.search.specs.declared.Found.{Found}
 use Rattle.search.specs.declared.Found.the-variants.{At, Nowhere}
 use Rattle.questions.specs.Given.{settingAt}
 use Rattle.questions.specs.Numbers.{roundsHold, dayHolds, limitsHold, sheetHolds, soundHolds, standingAsks}
 use Rattle.questions.specs.Standing.{Standing, standing-held, standing-numbered, standing-after}
-use Rattle.questions.specs.Tied.{Tied, AllTied, tied-rounds, tied-ends}
-use Rattle.questions.specs.Ties.{stream-tied}
-use Rattle.questions.specs.Sound.{streamsSound, sound-streams}
-use Rattle.questions.specs.ListSound.{all-tied-taken, length-streams, list-sound, streams-playable}
-use Rattle.questions.specs.Start.{sheetQuery, first-query}
+use Rattle.questions.specs.Tied.{Tied, AllTied, tied-rounds}
+use Rattle.questions.specs.ListSound.{all-tied-taken, length-streams, sound-playable}
+use Rattle.questions.specs.SheetOf.{SheetOf, laid-sheet}
+use Rattle.questions.specs.Start.{first-query}
 use Rattle.booking.specs.Contract.{Leaves, bookAsks}
 use Rattle.booking.specs.Own.{requestOf, request-tied}
-use Rattle.booking.specs.Place.{film-small, SheetOf, laid-sheet, laid-window}
+use Rattle.booking.specs.Place.{film-small, laid-window}
 
 -- the code's questions are the model's
 pub asks-same : (f : List ℕ) (day : Day) (rows : List Booking) (places : ℕ) (q : Request) (o r h : List ℕ)
@@ -79,13 +74,6 @@ all-tied-snoc S f [] [] t b x u = (u, tt)
 all-tied-snoc S f [] (z ∷ xs) t b x u = absurd t
 all-tied-snoc S f (c ∷ bs) [] t b x u = absurd t
 all-tied-snoc S f (c ∷ bs) (z ∷ xs) t b x u = (t .0, all-tied-snoc S f bs xs (t .1) b x u)
-
--- of a sound list each stream passes its tests
-basic-of-sound : (f : List ℕ) (day : Day) (rows : List Booking) (n : ℕ) (xs : List Stream) → verdict f ≡ 0 → n ≤ maxBookings → n ≤ length rows
-    → xs ≡ streamsOf (catalogueOf f) n rows → Sound (settingAt f day) (take n rows) → all (basicOf (day .rounds)) (take n xs) ≡ true
-basic-of-sound f day rows n xs a few there made s =
-    let e = sym (list-sound f day rows n xs a few there made) ∙ says-sound (settingAt f day) (take n rows) s in
-    left (all (basicOf (day .rounds)) (take n xs)) (streamsSound f (day .rounds) (day .disk) (day .memory) (take n xs)) (right (namesDiffer (take n rows)) e)
 
 module _ (f : List ℕ) (day : Day) (rows : List Booking) (places : ℕ) (q : Request) (o₀ r₀ h₀ : List ℕ) (bytes : Bytes f)
     (full : length rows ≡ maxBookings)
@@ -127,8 +115,7 @@ module _ (f : List ℕ) (day : Day) (rows : List Booking) (places : ℕ) (q : Re
 
     good : EachOf (Playable f) (day .count) xs × EachOf (Within T) (day .count) xs
     good =
-        streams-playable f day rows (day .count) xs (stands .accepted) (stands .few) there made (stands .rounds)
-        (basic-of-sound f day rows (day .count) xs (stands .accepted) (stands .few) there made (stands .sound))
+        sound-playable f day rows (day .count) xs (stands .accepted) (stands .few) there made (stands .rounds) (says-sound S bs (stands .sound))
 
     sheet-places : Places T o₀ r₀ h₀
     sheet-places = record { opens-places = stands .opens; reserves-places = stands .reserves; helds-places = stands .helds }
@@ -191,7 +178,7 @@ module _ (f : List ℕ) (day : Day) (rows : List Booking) (places : ℕ) (q : Re
       unfolding startOf exists
       found-same =
           first-query S f bs (take (day .count) xs) tied q y ties refl o₀ r₀ h₀ (stands .sound) (λ s. passed-at S q (q .first) s (asks .fair) .exist) (asks .ending)
-          ∙ rw (sheet-of .opens, sheet-of .reserves, sheet-of .helds)
+          ∙ rw (sheet-of .films, sheet-of .reserve-sums, sheet-of .held-sums)
 
       answer-nowhere : (m : Fit.Found) → Nowhere ≡ answerOf m → m ≡ Fit.nowhere
       answer-nowhere Fit.nowhere e = refl
@@ -214,7 +201,7 @@ module _ (f : List ℕ) (day : Day) (rows : List Booking) (places : ℕ) (q : Re
       leaves-none e =
           let c = call-same Fit.nowhere (found-same ∙ answer-nowhere found e) in
           rw c
-          (record { answer = refl; day = refl; rows = refl; opens = sheet-of .opens; reserves = sheet-of .reserves; helds = sheet-of .helds })
+          (record { answer = refl; day = refl; rows = refl; opens = sheet-of .films; reserves = sheet-of .reserve-sums; helds = sheet-of .held-sums })
 
       module _ (s : ℕ) (at-s : At s ≡ answerOf found) where
         model-at : startOf S d q ≡ Fit.at s
@@ -281,9 +268,9 @@ module _ (f : List ℕ) (day : Day) (rows : List Booking) (places : ℕ) (q : Re
               answer = refl;
               day = ap (λ (n : ℕ). record { rounds = day .rounds; disk = day .disk; memory = day .memory; now = day .now; count = n }) (add-one (day .count));
               rows = refl;
-              opens = all .opens;
-              reserves = all .reserves;
-              helds = all .helds;
+              opens = all .films;
+              reserves = all .reserve-sums;
+              helds = all .held-sums;
             })
 
         -- each list is as long as it was

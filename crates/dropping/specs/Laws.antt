@@ -22,10 +22,11 @@ use Rattle.model.specs.declared.Answer.the-variants.{Refused, Dropped}
 use Rattle.questions.specs.Given.{settingAt}
 use Rattle.questions.specs.Numbers.{roundsHold, dayHolds, limitsHold, sheetHolds, soundHolds, standingAsks}
 use Rattle.questions.specs.Standing.{Standing, standing-held, standing-numbered}
+use Rattle.questions.specs.SheetOf.{SheetOf}
 use Rattle.dropping.specs.Contract.{Drops}
 use Rattle.dropping.specs.Removal.{closed, Position}
 use Rattle.dropping.specs.RemovalLaws.{take-closed}
-use Rattle.dropping.specs.Standing.{Stands, Worked}
+use Rattle.dropping.specs.Standing.{Stands}
 use Rattle.dropping.specs.declared.DropOutcome.{DropOutcome}
 
 module _ (f : List ℕ) (day : Day) (rows : List Booking) (places : ℕ) (opens reserves helds : List ℕ) (n : ℕ)
@@ -106,12 +107,12 @@ module _ (f : List ℕ) (day : Day) (rows : List Booking) (places : ℕ) (opens 
         pub accepted-drops : (r : DropOutcome) (o v h : List ℕ) → r .answer ≡ Dropped
             → r .day ≡ record { rounds = day .rounds; disk = day .disk; memory = day .memory; now = day .now; count = day .count - 1 }
             → r .rows ≡ closed i (day .count) rows
-            → Worked S (take (day .count - 1) (r .rows)) opens reserves helds o v h
+            → SheetOf S (take (day .count - 1) (r .rows)) opens reserves helds o v h
             → Drops S d name r o v h
         unfolding dropCall
         accepted-drops r o v h a y w k =
             let taken : take (day .count - 1) (r .rows) ≡ without name (standing d) = ap (take (day .count - 1)) w ∙ rest-taken in
-            let u = subst (λ (bs : List Booking). Worked S bs opens reserves helds o v h) taken k in
+            let u = subst (λ (bs : List Booking). SheetOf S bs opens reserves helds o v h) taken k in
             record {
               answer = rw number-none a;
               day = rw number-none y;

@@ -1,5 +1,4 @@
--- The sheet of the bookings that stand. Document 01, 'A day at the desk': "Each accepted booking, drop or opening works the
--- sheet out from the bookings .. What stood there before counts for nothing. Places from T on are untouched."
+-- What the sheet of the bookings that stand is worked out from.
 use mathlib.Core.Path.{_≡_}
 use mathlib.Core.Bool.{true}
 use mathlib.Core.List.{List}
@@ -8,9 +7,7 @@ use Rattle.limits.specs.Bounds.{maxBookings, maxDay}
 use Rattle.films.specs.Questions.{verdict}
 use Rattle.films.specs.Catalogue.{catalogueOf}
 use Rattle.films.specs.declared.types.Catalogue.{Catalogue}
-use Rattle.model.specs.Day.{Setting, opened, reserved, held}
 use Rattle.model.specs.Soundness.{soundList}
-use Rattle.model.specs.Calls.{workedOut}
 use Rattle.model.specs.declared.Booking.{Booking}
 use Rattle.model.specs.declared.Day.{Day}
 use Rattle.sheet.specs.Sheet.{Places}
@@ -24,9 +21,3 @@ pub record Stands (f : List ℕ) (c : Catalogue) (day : Day) (bs : List Booking)
   pub few : n ≤ maxBookings
   pub sound : soundList (settingAt f day) bs ≡ true
   pub places : Places (day .rounds) opens reserves helds
-
--- the sheet is worked out from bs: "films open, sum of reserves, sum of bytes held"
-pub record Worked (S : Setting) (bs : List Booking) (opens₀ reserves₀ helds₀ opens reserves helds : List ℕ) : Type 0 where
-  pub films : opens ≡ workedOut (S .rounds) (λ t. opened S t bs) opens₀
-  pub reserve-sums : reserves ≡ workedOut (S .rounds) (λ t. reserved S t bs) reserves₀
-  pub held-sums : helds ≡ workedOut (S .rounds) (λ t. held S t bs) helds₀

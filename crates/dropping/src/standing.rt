@@ -7,7 +7,8 @@ use model::Day;
 use sheet::sheet::lay_sheet;
 ghost use lib.ListN.{take};
 ghost use Rattle.questions.specs.Given.{settingAt};
-ghost use Rattle.dropping.specs.Standing.{Stands, Worked};
+ghost use Rattle.questions.specs.SheetOf.{SheetOf};
+ghost use Rattle.dropping.specs.Standing.{Stands};
 
 // Works the sheet's first T places out from the first `count` records, a sound list.
 pub fn lay_standing(
@@ -21,7 +22,7 @@ pub fn lay_standing(
     helds: &mut [u64],
 )
     requires { ⌜ Stands (now file) c day (take count rows) count (now opens) (now reserves) (now helds) ⌝ }
-    ensures { λ _. ⌜ Worked (settingAt (now (file .entry)) day) (take count rows) (now (opens .entry)) (now (reserves .entry)) (now (helds .entry)) (now (opens .exit)) (now (reserves .exit)) (now (helds .exit)) ⌝ }
+    ensures { λ _. ⌜ SheetOf (settingAt (now (file .entry)) day) (take count rows) (now (opens .entry)) (now (reserves .entry)) (now (helds .entry)) (now (opens .exit)) (now (reserves .exit)) (now (helds .exit)) ⌝ }
 {
     let xs = streams_of(c, rows, count);
     lay_sheet(file, xs, count, day.rounds as usize, opens, reserves, helds);

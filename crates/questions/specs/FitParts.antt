@@ -1,17 +1,17 @@
 -- One booking more, beside a sound list: it fits exactly if the disk and memory take it in each of its own rounds and none of the
 -- others clashes with it. So a start is tested by the sheet of the standing bookings. Assumes nothing.
-use mathlib.Core.Path.{_≡_, refl, sym, ap, ap₂, _∙_}
+use mathlib.Core.Path.{_≡_, refl, ap, _∙_}
 use mathlib.Core.Bool.{Bool, true, false, cond, not, _&&_}
 use mathlib.Core.List.{List, [], _∷_, _++_}
-use Prim.Native.Nat.{ℕ, zero, suc, _+_, _-_, _≤_, _<_}
+use Prim.Native.Nat.{ℕ, _+_, _-_, _≤_, _<_}
 use native.Mathlib.Omega.{arith}
 use lib.ListN.{length, getD}
-use lib.Dec.{leb, ltb}
+use lib.Dec.{leb}
 use borrow.Author.Tests.{leb-true, le-leb, lt-ltb}
-use Rattle.laws.specs.Tests.{left, right, join, all, below, below-at, below-all, all-append}
+use Rattle.laws.specs.Tests.{left, right, join, all, below, below-at, below-all}
 use Rattle.films.specs.Layout.{sizesOf}
 use Rattle.retrieval.specs.Carry.{profile}
-use Rattle.model.specs.Day.{Setting, sending, ends, openAt, exists, heldAt, scheduleOf, opened, reserved, held, showing}
+use Rattle.model.specs.Day.{Setting, sending, ends, openAt, exists, opened, reserved, held}
 use Rattle.model.specs.Soundness.{fitTest, limitsKept}
 use Rattle.model.specs.FitLaws.{length-sends, place, Round, round-says, says-round, limits-round, round-limits}
 use Rattle.model.specs.SoundLaws.{Sound, sound-exist, all-map, all-snoc, passes-held}

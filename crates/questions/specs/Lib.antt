@@ -7,4 +7,5 @@ pub mod Ties
 pub mod FitParts
 pub mod Sound
 pub mod ListSound
+pub mod SheetOf
 pub mod Start

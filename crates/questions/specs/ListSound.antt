@@ -1,5 +1,5 @@
 -- Soundness of the first n bookings of an array, by the streams that the code makes of them. Assumes nothing.
-use mathlib.Core.Path.{_≡_, refl, sym, ap, _∙_, subst}
+use mathlib.Core.Path.{_≡_, refl, sym, ap, _∙_}
 use mathlib.Core.Bool.{true, _&&_}
 use mathlib.Core.List.{List, map}
 use Prim.Native.Nat.{ℕ, _≤_}
@@ -7,7 +7,7 @@ use native.Mathlib.Omega.{arith}
 use lib.ListN.{length, take}
 use lib.Seq.{length-take-le}
 use Rattle.limits.specs.Bounds.{maxBookings, maxDay}
-use Rattle.laws.specs.Tests.{all}
+use Rattle.laws.specs.Tests.{left, right, all}
 use Rattle.films.specs.Questions.{verdict}
 use Rattle.films.specs.Catalogue.{catalogueOf}
 use Rattle.model.specs.Soundness.{namesDiffer, soundList}
@@ -44,3 +44,11 @@ module _ (f : List ℕ) (day : Day) (rows : List Booking) (n : ℕ) (xs : List S
       → EachOf (Playable f) n xs × EachOf (Within (day .rounds)) n xs
   streams-playable h e =
       each-playable (settingAt f day) f n (day .rounds) (take n rows) xs (omega (arith, length-streams)) h all-tied-taken e
+
+  -- of a sound list each stream is playable
+  pub sound-playable : day .rounds ≤ maxDay → soundList (settingAt f day) (take n rows) ≡ true
+      → EachOf (Playable f) n xs × EachOf (Within (day .rounds)) n xs
+  sound-playable h e =
+      streams-playable h
+      (left (all (basicOf (day .rounds)) (take n xs)) (streamsSound f (day .rounds) (day .disk) (day .memory) (take n xs))
+      (right (namesDiffer (take n rows)) (sym list-sound ∙ e)))

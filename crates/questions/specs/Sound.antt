@@ -2,7 +2,7 @@
 use mathlib.Core.Path.{_≡_, refl, sym, ap, ap₂, _∙_, subst}
 use mathlib.Core.Bool.{Bool, true, not, _&&_}
 use mathlib.Core.List.{List, [], _∷_}
-use Prim.Native.Nat.{ℕ, zero, suc, _+_, _≤_, _<_}
+use Prim.Native.Nat.{ℕ, zero, suc, _≤_, _<_}
 use native.Mathlib.Omega.{arith}
 use native.Mathlib.Nat.{not-suc-le-zero, le-of-suc-le-suc}
 use lib.ListN.{length, getD, take}
@@ -14,7 +14,7 @@ use Rattle.films.specs.Sizes.{Stored}
 use Rattle.laws.specs.Tests.{left, right, all, all-at, below}
 use Rattle.loss.specs.Loss.{lossAt}
 use Rattle.loss.specs.Rising.{loss-rising}
-use Rattle.model.specs.Day.{Setting, exists, opened, reserved, held}
+use Rattle.model.specs.Day.{Setting, exists}
 use Rattle.model.specs.Soundness.{namesDiffer, soundList}
 use Rattle.model.specs.SoundTest.{basic, memoryAt, soundTest, sound-test}
 use Rattle.model.specs.DiskLaws.{diskAt, diskAtStarts}
@@ -26,7 +26,7 @@ use Rattle.load.specs.Basic.{basicOf, endsBy, Bounded, Playable, Within, EachOf
 use Rattle.load.specs.Disk.{diskKept, startsKept}
 use Rattle.load.specs.declared.stream.Stream.{Stream}
 use Rattle.sheet.specs.Memory.{feasible, memoryKept}
-use Rattle.questions.specs.Tied.{Tied, AllTied, all-tied, opened-tied, reserved-tied, held-tied, pairs-tied, basic-tied, exists-tied}
+use Rattle.questions.specs.Tied.{AllTied, all-tied, opened-tied, reserved-tied, held-tied, pairs-tied, basic-tied, exists-tied}
 
 -- two tests that agree below n
 pub below-same : (n : ℕ) (g h : ℕ → Bool) → ((j : ℕ) → j < n → g j ≡ h j) → below n g ≡ below n h

@@ -5,8 +5,6 @@ use mathlib.Core.List.{List, [], _∷_, _++_}
 use Prim.Native.Nat.{ℕ, zero, suc, _+_, _-_, _≤_, _<_}
 use native.Mathlib.Omega.{arith}
 use lib.ListN.{length, getD, drop, List·getD-append}
-use lib.Dec.{leb}
-use Rattle.laws.specs.Tests.{all}
 use Rattle.films.specs.Layout.{sizesOf}
 use Rattle.loss.specs.Loss.{lossAt}
 use Rattle.model.specs.Day.{Setting, recordOf, sending, ends, exists, opened, reserved, held}

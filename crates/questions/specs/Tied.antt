@@ -1,12 +1,12 @@
 -- A booking of the model and a stream of the code stand for each other: the same numbers, and the film's sizes where the stream
 -- says they stand. What the two say of a round is then the same. Assumes nothing.
 use mathlib.Core.Path.{_≡_, refl, sym, ap, ap₂, _∙_}
-use mathlib.Core.Bool.{Bool, true, false, cond, not, _&&_}
-use mathlib.Core.List.{List, [], _∷_, _++_, map}
-use Prim.Native.Nat.{ℕ, zero, suc, _+_, _-_, _≤_, _<_}
+use mathlib.Core.Bool.{Bool, cond, not, _&&_}
+use mathlib.Core.List.{List, [], _∷_}
+use Prim.Native.Nat.{ℕ, _+_, _-_}
 use native.Mathlib.Omega.{arith}
-use lib.ListN.{length, getD}
-use lib.Dec.{leb, ltb, eqb}
+use lib.ListN.{length}
+use lib.Dec.{leb}
 use Rattle.laws.specs.Tests.{all}
 use Rattle.films.specs.Layout.{inFile, sizesOf}
 use Rattle.films.specs.Sizes.{sizes, Stored}

@@ -1,13 +1,11 @@
 -- The streams that the code makes of bookings by the catalogue of an accepted file are tied to them. Assumes nothing.
-use mathlib.Core.Path.{_≡_, refl, sym, ap, _∙_}
+use mathlib.Core.Path.{_≡_, refl, sym, _∙_}
 use mathlib.Core.Bool.{Bool, true, false, cond, _||_}
 use mathlib.Core.List.{List, [], _∷_, map}
-use Prim.Native.Nat.{ℕ, _≤_}
+use Prim.Native.Nat.{ℕ}
 use native.Mathlib.Omega.{arith}
-use lib.ListN.{length, take, getD}
-use lib.Dec.{leb, eqb}
+use lib.Dec.{eqb}
 use borrow.Author.Tests.{le-leb}
-use Rattle.limits.specs.Bounds.{maxBookings}
 use Rattle.films.specs.Layout.{Film, inFile, sizesOf}
 use Rattle.films.specs.Questions.{verdict}
 use Rattle.films.specs.Decode.{filmsOf}
@@ -17,10 +15,7 @@ use Rattle.films.specs.declared.types.Lookup.{Lookup}
 use Rattle.films.specs.declared.types.Lookup.the-variants.{Found, Missing}
 use Rattle.model.specs.Day.{Setting}
 use Rattle.model.specs.declared.Booking.{Booking}
-use Rattle.load.specs.Stream.{noStream}
-use Rattle.load.specs.Streams.{placed, streamOf, streamsOf}
-use Rattle.load.specs.Lists.{take-filled}
-use Rattle.load.specs.declared.stream.Stream.{Stream}
+use Rattle.load.specs.Streams.{placed, streamOf}
 use Rattle.questions.specs.Tied.{Tied, AllTied}
 
 -- a film that is not in the file has no sizes

@@ -108,7 +108,7 @@ module _ (f : List ℕ) (xs : List Stream) (n T : ℕ) (opens reserves helds o r
 
 -- ---- for callers: a stream added to a sheet that was laid
 
-total-most : (g : Stream → ℕ) (m : ℕ) (xs : List Stream) → ((i : ℕ) → i < length xs → g (getD xs i noStream) ≤ m) → total g xs ≤ m * length xs
+pub total-most : (g : Stream → ℕ) (m : ℕ) (xs : List Stream) → ((i : ℕ) → i < length xs → g (getD xs i noStream) ≤ m) → total g xs ≤ m * length xs
 total-most g m [] f = omega arith
 total-most g m (x ∷ xs) f = omega (arith, f 0 (omega arith), total-most g m xs (λ i h. f (suc i) (omega arith)), mul-suc m (length xs))
 
