@@ -1,5 +1,5 @@
 # make test: the gate, as .ci/run runs it. make demo: the session of document 01. make run FILMS=films.bin < commands: one's own.
-.PHONY: test demo run fmt
+.PHONY: test demo run fmt lib examples differential
 
 FILMS ?= films.bin
 HALL := target/bin/hall
@@ -25,3 +25,37 @@ target:
 
 fmt:
 	@rt fmt
+
+# ---- The library for C and Rust
+
+# The folder of the archive; another one may be named, and is then taken as it is.
+PLAYBACK_LIB_DIR ?= $(CURDIR)/target/staticlib
+export PLAYBACK_LIB_DIR
+ARCHIVE := $(PLAYBACK_LIB_DIR)/liblent.a
+CARGO := CARGO_TARGET_DIR=$(CURDIR)/target/cargo cargo
+LENT := lent $(shell sed -n 's/^lent://p' crates.txt)
+
+# make lib: target/staticlib/liblent.a, proved anew.
+lib: | target
+	@rt staticlib lent
+
+$(CURDIR)/target/staticlib/liblent.a: $(foreach crate,$(LENT),$(wildcard crates/$(crate)/src/*.rt)) | target
+	@rt staticlib lent > target/lib.log 2>&1 || { cat target/lib.log; exit 1; }
+
+# make examples: the C example and the Rust one print the same day; the Rust crate's tests and the examples of its documentation.
+examples: $(ARCHIVE)
+	@mkdir -p target/examples
+	@$(CXX) -std=c++11 -Wall -Wextra -Wpedantic -Werror -fsyntax-only -x c++ include/playback.h
+	@$(CC) -std=c11 -O2 -Wall -Wextra -Wpedantic -Werror -Iinclude examples/day.c $(ARCHIVE) -o target/examples/day
+	@target/examples/day > target/examples/c.txt
+	@cd bindings && $(CARGO) test -q --release
+	@cd bindings && $(CARGO) run -q --release --example day > ../target/examples/rust.txt
+	@cmp examples/day.txt target/examples/c.txt && cmp examples/day.txt target/examples/rust.txt
+	@cat target/examples/c.txt && echo "C and Rust: as examples/day.txt"
+
+# make differential: drawn calls of the library against the second implementation, 10,000 of a seed from the clock.
+# CALLS=1500 SEED=1 is the gate's.
+CALLS ?= 10000
+SEED ?=
+differential: $(ARCHIVE)
+	@cd differential && $(CARGO) run -q --release -- $(CALLS) $(SEED)
