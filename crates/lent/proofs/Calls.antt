@@ -39,9 +39,9 @@ use denote.Triple.Spec.{tripleOf}
 use borrow.Fn.PlainCycle.{is}
 use Rattle.model.specs.declared.Booking.{Booking}
 use Rattle.model.specs.declared.Line.{Line}
-use Rattle.lent.specs.Records.{loaded, stored}
-use Rattle.lent.specs.Reply.{replyOf}
-use Rattle.lent.specs.declared.reply.Reply.{Reply}
+use Rattle.interface.specs.Records.{loaded, stored}
+use Rattle.interface.specs.Reply.{replyOf}
+use Rattle.interface.specs.declared.reply.Reply.{Reply}
 use Rattle.model.specs.declared.Answer.{Answer}
 use Rattle.model.specs.declared.Day.{Day}
 use Rattle.model.proofs.Answer as An
@@ -56,8 +56,8 @@ use Rattle.lent.proofs.records.store as st
 use Rattle.lent.proofs.records.store.Symbol.{name as #lent·records·store}
 use Rattle.lent.proofs.records.write as wr
 use Rattle.lent.proofs.records.write.Symbol.{name as #lent·records·write}
-use Rattle.lent.proofs.reply.reply_of as rp
-use Rattle.lent.proofs.reply.reply_of.Symbol.{name as #lent·reply·reply-of}
+use Rattle.interface.proofs.reply.reply_of as rp
+use Rattle.interface.proofs.reply.reply_of.Symbol.{name as #interface·reply·reply-of}
 
 module _ {M : Type 1} (𝓤 : URA M) (H : Heap 𝓤) (A : Atoms 𝓤) (mem : Memory → SProp 𝓤) (run : Routine → Fun 𝓤) where
   abbrev pub Load : Contract 𝓤
@@ -192,10 +192,10 @@ module _ {M : Type 1} (𝓤 : URA M) (H : Heap 𝓤) (A : Atoms 𝓤) (W : Given
   goes-reply = qed W [] ∵ nothing ! $ owned ! (R day) (Is (R day)) (makes day 𝓤 H A) y _ gy $ fjoin ! $ owned ! An.the-row (Is An.the-row) (EL.makes An.the-type An′.the-plain 𝓤 H A) a _ ga $ fjoin ! $ nothing ! $ join ! $ frame ! $ done !
 
   module _ {K : Type 0} {Γ : List (Item 𝓤)} {E : Env 𝓤 H} {C : Calls 𝓤 H} {Λ : Loops 𝓤 H} {p : Post 𝓤 H} {xs : List Operand} {d : Place} {rest : Body} where
-    pub replies : K → FmC 𝓤 H (W .laws) C → Triple 𝓤 (C #lent·reply·reply-of) (ReplyOf 𝓤 H A mem run)
+    pub replies : K → FmC 𝓤 H (W .laws) C → Triple 𝓤 (C #interface·reply·reply-of) (ReplyOf 𝓤 H A mem run)
         → Opds K W (raw (ReplyOf 𝓤 H A mem run .pre to-reply) ∷ Γ) E xs (ua ∷ mach day y ∷ [])
         → ((r : Reply) (u : Val) → r ≡ replyOf a y → Is (R reply) r (u ∷ []) → Seq K W Γ (lands C Λ E d u rest p))
-        → Seq K W Γ (runs C Λ E (seq (call #lent·reply·reply-of xs d) rest) p)
+        → Seq K W Γ (runs C Λ E (seq (call #interface·reply·reply-of xs d) rest) p)
     replies t fm known ops k =
         use0 W (raw (ReplyOf 𝓤 H A mem run .pre to-reply)) goes-reply $
         calls-at t fm (ReplyOf 𝓤 H A mem run) known to-reply ops (λ u.

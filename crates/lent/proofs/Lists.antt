@@ -11,8 +11,8 @@ use lib.Seq.{length-take-le}
 use Rattle.limits.specs.Bounds.{maxBookings}
 use Rattle.model.specs.declared.Booking.{Booking}
 use Rattle.model.specs.Calls.{noBooking}
-use Rattle.lent.specs.Records.{loaded}
-use Rattle.lent.specs.RecordLaws.{take-min}
+use Rattle.interface.specs.Records.{loaded}
+use Rattle.interface.specs.RecordLaws.{take-min}
 
 module _ {A : Type 0} where
   abbrev pub copied : List A → List A → ℕ → List A

@@ -26,12 +26,12 @@ use denote.Triple.Clauses.{ensured, lasts}
 use denote.Triple.Spec.{tripleOf}
 use borrow.Fn.PlainCycle.{is}
 use Rattle.model.specs.declared.Day.{Day}
-use Rattle.lent.specs.ReplayCall.{told}
-use Rattle.lent.specs.declared.replay_call.Replayed.{Replayed}
+use Rattle.interface.specs.ReplayCall.{told}
+use Rattle.interface.specs.declared.replay_call.Replayed.{Replayed}
 use Rattle.lent.proofs.Rows.{R, mach, vals, makes}
 use Rattle.lent.proofs.Shapes.{day, replayed}
-use Rattle.lent.proofs.replay_call.replayed_of as rp
-use Rattle.lent.proofs.replay_call.replayed_of.Symbol.{name as #lent·replay-call·replayed-of}
+use Rattle.interface.proofs.replay_call.replayed_of as rp
+use Rattle.interface.proofs.replay_call.replayed_of.Symbol.{name as #interface·replay-call·replayed-of}
 
 module _ {M : Type 1} (𝓤 : URA M) (H : Heap 𝓤) (A : Atoms 𝓤) (mem : Memory → SProp 𝓤) (run : Routine → Fun 𝓤) where
   abbrev pub ReplayedOf : Contract 𝓤
@@ -50,10 +50,10 @@ module _ {M : Type 1} (𝓤 : URA M) (H : Heap 𝓤) (A : Atoms 𝓤) (W : Given
       owned ! u64 (Is u64) (uint-makes 𝓤 H A W w64) n _ (refl, gn) $ fjoin ! $ owned ! u32 (Is u32) (uint-makes 𝓤 H A W w32) k _ (refl, gk) $ fjoin ! $ nothing ! $ join ! $ frame ! $ done !
 
   module _ {K : Type 0} {Γ : List (Item 𝓤)} {E : Env 𝓤 H} {C : Calls 𝓤 H} {Λ : Loops 𝓤 H} {p : Post 𝓤 H} {xs : List Operand} {d : Place} {rest : Body} where
-    pub tells-replayed : K → FmC 𝓤 H (W .laws) C → Triple 𝓤 (C #lent·replay-call·replayed-of) (ReplayedOf 𝓤 H A mem run)
+    pub tells-replayed : K → FmC 𝓤 H (W .laws) C → Triple 𝓤 (C #interface·replay-call·replayed-of) (ReplayedOf 𝓤 H A mem run)
         → Opds K W (raw (ReplayedOf 𝓤 H A mem run .pre to-told) ∷ Γ) E xs (vint w32 k ∷ vint w64 n ∷ vint w64 w ∷ mach day y ∷ [])
         → ((r : Replayed) (u : Val) → r ≡ told k n w y → Is (R replayed) r (u ∷ []) → Seq K W Γ (lands C Λ E d u rest p))
-        → Seq K W Γ (runs C Λ E (seq (call #lent·replay-call·replayed-of xs d) rest) p)
+        → Seq K W Γ (runs C Λ E (seq (call #interface·replay-call·replayed-of xs d) rest) p)
     tells-replayed t fm known ops next =
         use0 W (raw (ReplayedOf 𝓤 H A mem run .pre to-told)) goes-told $
         calls-at t fm (ReplayedOf 𝓤 H A mem run) known to-told ops (λ u.

@@ -8,10 +8,10 @@ use Rattle.model.proofs.Day.Laws as Y′
 use Rattle.model.proofs.Request as Q
 use Rattle.model.proofs.Request.Laws as Q′
 use Rattle.model.specs.declared.Line.{Line}
-use Rattle.lent.proofs.reply.Reply as P
-use Rattle.lent.proofs.reply.Reply.Laws as P′
-use Rattle.lent.proofs.replay_call.Replayed as D
-use Rattle.lent.proofs.replay_call.Replayed.Laws as D′
+use Rattle.interface.proofs.reply.Reply as P
+use Rattle.interface.proofs.reply.Reply.Laws as P′
+use Rattle.interface.proofs.replay_call.Replayed as D
+use Rattle.interface.proofs.replay_call.Replayed.Laws as D′
 use Rattle.lent.proofs.Rows.{Kind}
 
 abbrev pub booking : Kind

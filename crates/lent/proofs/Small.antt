@@ -31,10 +31,10 @@ use Rattle.model.specs.declared.Booking.{Booking}
 use Rattle.model.specs.Calls.{noBooking}
 use Rattle.lent.proofs.Rows.{Arr}
 use Rattle.lent.proofs.Shapes.{booking}
-use Rattle.lent.proofs.records.min as mn
-use Rattle.lent.proofs.records.min.Symbol.{name as #lent·records·min}
-use Rattle.lent.proofs.records.blank as bl
-use Rattle.lent.proofs.records.blank.Symbol.{name as #lent·records·blank}
+use Rattle.interface.proofs.rows.min as mn
+use Rattle.interface.proofs.rows.min.Symbol.{name as #interface·rows·min}
+use Rattle.interface.proofs.rows.blank as bl
+use Rattle.interface.proofs.rows.blank.Symbol.{name as #interface·rows·blank}
 
 module _ {M : Type 1} (𝓤 : URA M) (H : Heap 𝓤) (A : Atoms 𝓤) (mem : Memory → SProp 𝓤) (run : Routine → Fun 𝓤) where
   abbrev pub Min : Contract 𝓤
@@ -63,10 +63,10 @@ module _ {M : Type 1} (𝓤 : URA M) (H : Heap 𝓤) (A : Atoms 𝓤) (W : Given
   goes-blank = qed W [] ∵ nothing ! $ nothing ! $ join ! $ frame ! $ done !
 
   module _ {K : Type 0} {Γ : List (Item 𝓤)} {E : Env 𝓤 H} {C : Calls 𝓤 H} {Λ : Loops 𝓤 H} {p : Post 𝓤 H} {xs : List Operand} {d : Place} {rest : Body} where
-    pub mins : K → FmC 𝓤 H (W .laws) C → Triple 𝓤 (C #lent·records·min) (Min 𝓤 H A mem run) → (a b : ℕ) → a < 2 ^ 64 → b < 2 ^ 64
+    pub mins : K → FmC 𝓤 H (W .laws) C → Triple 𝓤 (C #interface·rows·min) (Min 𝓤 H A mem run) → (a b : ℕ) → a < 2 ^ 64 → b < 2 ^ 64
         → Opds K W (raw (Min 𝓤 H A mem run .pre (to-min a b)) ∷ Γ) E xs (vint w64 a ∷ vint w64 b ∷ [])
         → Seq K W Γ (lands C Λ E d (vint w64 (min a b)) rest p)
-        → Seq K W Γ (runs C Λ E (seq (call #lent·records·min xs d) rest) p)
+        → Seq K W Γ (runs C Λ E (seq (call #interface·rows·min xs d) rest) p)
     mins t fm known a b ga gb ops k =
         use0 W (raw (Min 𝓤 H A mem run .pre (to-min a b))) (goes-min a b ga gb) $
         calls-at t fm (Min 𝓤 H A mem run) known (to-min a b) ops (λ u.
@@ -74,10 +74,10 @@ module _ {M : Type 1} (𝓤 : URA M) (H : Heap 𝓤) (A : Atoms 𝓤) (W : Given
         split t $ move t (1 ∷ []) $ use1 W (raw (fact 𝓤 (r ≡ min a b))) (min-of 𝓤 H A mem run a b r) $ heard t (r ≡ min a b) (λ e. split t $ drop t $ facts t usize (Is usize) (shows 𝓤 H A usize) r (u ∷ []) (λ is.
         subst (λ (z : Val). Seq K W Γ (lands C Λ E d z rest p)) (sym (ap only (is .0) ∙ ap (vint w64) e)) k))))
 
-    pub blanks : K → FmC 𝓤 H (W .laws) C → Triple 𝓤 (C #lent·records·blank) (Blank 𝓤 H A mem run)
+    pub blanks : K → FmC 𝓤 H (W .laws) C → Triple 𝓤 (C #interface·rows·blank) (Blank 𝓤 H A mem run)
         → Opds K W (raw (Blank 𝓤 H A mem run .pre to-blank) ∷ Γ) E xs []
         → ((r : List Booking) (u : Val) → r ≡ replicate maxBookings noBooking → Is (Arr booking) r (u ∷ []) → Seq K W Γ (lands C Λ E d u rest p))
-        → Seq K W Γ (runs C Λ E (seq (call #lent·records·blank xs d) rest) p)
+        → Seq K W Γ (runs C Λ E (seq (call #interface·rows·blank xs d) rest) p)
     blanks t fm known ops k =
         use0 W (raw (Blank 𝓤 H A mem run .pre to-blank)) goes-blank $
         calls-at t fm (Blank 𝓤 H A mem run) known to-blank ops (λ u.

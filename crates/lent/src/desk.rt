@@ -1,46 +1,23 @@
-// The calls of the desk over lent lists, for C and Rust: each loads the first 256 records, calls the call by value, and stores them.
-// A refusal stores what was loaded, so that every record stays as it was.
+// The calls of the desk over a lent list of records: each loads the first 256 records, calls the call by value, and stores them. A
+// refusal stores what was loaded, so that every record stays as it was.
 use crate::records::load;
 use crate::records::store;
 use crate::records::write;
-use crate::reply::Reply;
-use crate::reply::reply_of;
-use crate::rounds::play_round;
 use booking::book;
 use dropping::drop_booking;
+use interface::replay_call::Replayed;
+use interface::replay_call::replayed_of;
+use interface::reply::Reply;
+use interface::reply::reply_of;
+use interface::rounds::play_round;
 use limits::bounds::MAX_BOOKINGS;
 use model::Booking;
 use model::Day;
 use model::Line;
 use model::Request;
-use opening::open;
-ghost use mathlib.Core.List.{List};
-ghost use Prim.Native.Nat.{ℕ};
-ghost use Rattle.films.specs.Layout.{Film};
-ghost use Rattle.loss.specs.Loss.{lossAt};
-ghost use Rattle.model.specs.Code.{settingOf, stateOf};
-ghost use Rattle.model.specs.declared.Booking as declared;
-ghost use Rattle.opening.specs.Contract.{asked};
-ghost use Rattle.lent.specs.DeskCalls.{Opens, BooksOver, DropsOver, PlaysOver};
-
-// Opens a day: refusals 14, 15, 11, which leave the day before. No record and no film file is looked at.
-#[no_mangle]
-pub extern "C" fn playback_open(
-    day: Day,
-    rounds: u64,
-    disk: u64,
-    memory: u64,
-    opens: &mut [u64],
-    reserves: &mut [u64],
-    helds: &mut [u64],
-) -> Reply
-    ensures { λ r. ⌜ ((verdict : ℕ) (films : List Film) (rows : List declared.Booking) (places : ℕ) → Opens (settingOf verdict films lossAt (asked rounds disk memory)) (stateOf day rows places (now (opens .entry)) (now (reserves .entry)) (now (helds .entry))) day r (now (opens .exit)) (now (reserves .exit)) (now (helds .exit))) ⌝ }
-{
-    let done = open(day, rounds, disk, memory, opens, reserves, helds);
-    let answer = done.answer;
-    let next = done.day;
-    reply_of(answer, next)
-}
+use replay::replay;
+ghost use Rattle.interface.specs.DeskCalls.{BooksOver, DropsOver, PlaysOver};
+ghost use Rattle.interface.specs.ReplayCall.{ReplaysOver};
 
 // Books: refusals 1 to 7, 14, 15, 11, 16, 18, 8, 9, 10, 20, 12, 21, 17, 22. A refusal alters nothing lent, but that 22 leaves the
 // sheet of the bookings as they stand.
@@ -109,4 +86,42 @@ pub extern "C" fn playback_play(
     let answer = done.answer;
     let next = done.day;
     reply_of(answer, next)
+}
+
+// Opens a day and carries the journal's entries out in order, as far as the log has room. An opening that is refused, with 14, 15 or
+// 11, changes nothing lent.
+#[no_mangle]
+pub extern "C" fn playback_replay(
+    file: &[u8],
+    rounds: u64,
+    disk: u64,
+    memory: u64,
+    records: &mut [Booking],
+    journal: &[u64],
+    log: &mut [u64],
+    opens: &mut [u64],
+    reserves: &mut [u64],
+    helds: &mut [u64],
+) -> Replayed
+    ensures { λ r. ⌜ ReplaysOver (now (file .entry)) rounds disk memory (now (records .entry)) (now (journal .entry)) (now (log .entry)) (now (opens .entry)) (now (reserves .entry)) (now (helds .entry)) r (now (records .exit)) (now (log .exit)) (now (opens .exit)) (now (reserves .exit)) (now (helds .exit)) ⌝ }
+{
+    let places = records.len() as u64;
+    let rows = load(records);
+    let done = replay(
+        file,
+        rounds,
+        disk,
+        memory,
+        rows,
+        places,
+        journal,
+        log,
+        opens,
+        reserves,
+        helds,
+    );
+    let after = done.rows;
+    store(records, after, MAX_BOOKINGS);
+    let next = done.day;
+    replayed_of(done.refusal, done.entries, done.words, next)
 }

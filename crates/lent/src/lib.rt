@@ -1,10 +1,6 @@
-// The forms that are proved by hand: bookings as a lent list of records, the film reader as a struct that holds the file's
-// bytes; and what a call answers as plain numbers.
+// The forms that are proved by hand: bookings as a lent list of records, and the film reader as a struct that holds the file's bytes; and
+// the functions for C and Rust, which the static library has.
 pub mod desk;
-pub mod film_calls;
+pub mod exports;
 pub mod film_reader;
-pub mod plan_calls;
 pub mod records;
-pub mod replay_call;
-pub mod reply;
-pub mod rounds;

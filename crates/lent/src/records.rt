@@ -1,35 +1,11 @@
 // Lent lists of records: bookings, and the lines of a report.
+use interface::rows::blank;
+use interface::rows::min;
 use limits::bounds::MAX_BOOKINGS;
 use model::Booking;
 use model::Line;
 ghost use mathlib.Core.Path.{_≡_};
-ghost use Prim.Native.Nat.{min};
-ghost use lib.ListN.{replicate};
-ghost use Rattle.limits.specs.Bounds.{maxBookings};
-ghost use Rattle.model.specs.Calls.{noBooking};
-ghost use Rattle.lent.specs.Records.{loaded, stored};
-
-// The smaller of two numbers.
-pub fn min(a: usize, b: usize) -> usize
-    ensures { λ r. ⌜ r ≡ min a b ⌝ }
-{
-    if a < b { a } else { b }
-}
-
-// 256 records whose every field is 0.
-pub fn blank() -> [Booking; 256]
-    ensures { λ r. ⌜ r ≡ replicate maxBookings noBooking ⌝ }
-{
-    let none = Booking {
-        name: 0,
-        film: 0,
-        start: 0,
-        prefetch: 0,
-        reserve: 0,
-        cabs: 0,
-    };
-    [none; 256]
-}
+ghost use Rattle.interface.specs.Records.{loaded, stored};
 
 // The first records of a lent list, at most 256, and blank ones up to 256.
 pub fn load(list: &[Booking]) -> [Booking; 256]

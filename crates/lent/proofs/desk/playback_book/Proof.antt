@@ -53,7 +53,7 @@ use Rattle.model.specs.Code.{stateOf}
 use Rattle.questions.specs.Given.{settingAt}
 use Rattle.model.specs.declared.Request.{Request}
 use Rattle.booking.specs.Contract.{Leaves}
-use Rattle.lent.specs.DeskLaws.{book-over}
+use Rattle.interface.specs.DeskLaws.{book-over}
 use Rattle.model.proofs.Answer as An
 use Rattle.model.proofs.Answer.Laws as An′
 use Rattle.booking.specs.declared.Outcome.{Outcome}
@@ -63,13 +63,13 @@ use Rattle.booking.proofs.book as bk
 use Rattle.booking.proofs.book.Symbol as core-def
 use Rattle.booking.proofs.book.Symbol.{name as #booking·book}
 use Rattle.booking.proofs.book.Met as core-thm
-use Rattle.lent.specs.Records.{loaded, stored}
-use Rattle.lent.specs.DeskCalls.{BooksOver}
-use Rattle.lent.specs.Reply.{replyOf}
-use Rattle.lent.specs.declared.reply.Reply.{Reply}
-use Rattle.lent.proofs.reply.reply_of.Symbol as reply-def
-use Rattle.lent.proofs.reply.reply_of.Symbol.{name as #lent·reply·reply-of}
-use Rattle.lent.proofs.reply.reply_of.Met as reply-thm
+use Rattle.interface.specs.Records.{loaded, stored}
+use Rattle.interface.specs.DeskCalls.{BooksOver}
+use Rattle.interface.specs.Reply.{replyOf}
+use Rattle.interface.specs.declared.reply.Reply.{Reply}
+use Rattle.interface.proofs.reply.reply_of.Symbol as reply-def
+use Rattle.interface.proofs.reply.reply_of.Symbol.{name as #interface·reply·reply-of}
+use Rattle.interface.proofs.reply.reply_of.Met as reply-thm
 use Rattle.lent.proofs.Rows.{Kind, R, cell, mach, vals, tells, makes, typed, Arr, amakes, atyped, rows-is}
 use Rattle.lent.proofs.Shapes.{booking, reply, day, request}
 use Rattle.lent.proofs.Calls.{Load, Store, ReplyOf, loads, stores, replies}
@@ -192,7 +192,7 @@ module _ (κf κe κo κr κh : Lft) (qf qe qo qr qh : Share) (bf of be oe bo oo
         qed W (‵ (flft κf qf) ∷ ‵ (flft κo qo) ∷ ‵ (flft κr qr) ∷ ‵ (flft κh qh) ∷ ‵ (ShrSlice (named 0) κf u8 .own xf (sf ∷ [])) ∷ ‵ (MutSlice (named 1) κo u64 .own xo (so ∷ [])) ∷ ‵ (MutSlice (named 2) κr u64 .own xr (sr ∷ [])) ∷ ‵ (MutSlice (named 3) κh u64 .own xh (sh ∷ [])) ∷ []) ∵
         nothing ! $ move ! (8 ∷ 0 ∷ []) $ fjoin ! $ move ! (7 ∷ 0 ∷ []) $ fjoin ! $ move ! (6 ∷ 0 ∷ []) $ fjoin ! $ owned ! (R request) (Is (R request)) (makes request 𝓤 H A) p _ gp $ fjoin ! $ owned ! u64 (Is u64) (uint-makes 𝓤 H A W w64) (length ye) _ (refl, rme .0) $ fjoin ! $ owned ! (Arr booking) (Is (Arr booking)) (amakes booking 𝓤 H A W) rows _ is $ fjoin ! $ owned ! (R day) (Is (R day)) (makes day 𝓤 H A) y _ gy $ fjoin ! $ move ! (5 ∷ 0 ∷ []) $ fjoin ! $ nothing ! $ move ! (5 ∷ 0 ∷ []) $ join ! $ move ! (4 ∷ 0 ∷ []) $ join ! $ move ! (3 ∷ 0 ∷ []) $ join ! $ move ! (2 ∷ 0 ∷ []) $ join ! $ join ! $ frame ! $ done !
 
-    module _ (C : Calls 𝓤 H) (Λ : Loops 𝓤 H) (fm : FmC 𝓤 H (W .laws) C) (known-load : Triple 𝓤 (C #lent·records·load) (Load 𝓤 H A mem run)) (known-core : Triple 𝓤 (C #booking·book) (Core 𝓤 H A mem run)) (known-store : Triple 𝓤 (C #lent·records·store) (Store 𝓤 H A mem run)) (known-reply : Triple 𝓤 (C #lent·reply·reply-of) (ReplyOf 𝓤 H A mem run)) where
+    module _ (C : Calls 𝓤 H) (Λ : Loops 𝓤 H) (fm : FmC 𝓤 H (W .laws) C) (known-load : Triple 𝓤 (C #lent·records·load) (Load 𝓤 H A mem run)) (known-core : Triple 𝓤 (C #booking·book) (Core 𝓤 H A mem run)) (known-store : Triple 𝓤 (C #lent·records·store) (Store 𝓤 H A mem run)) (known-reply : Triple 𝓤 (C #interface·reply·reply-of) (ReplyOf 𝓤 H A mem run)) where
       walk : ent 𝓤 (onEntry 𝓤 H A f.signature (κf, (κe, (κo, (κr, (κh, tt))))) (qf, (qe, (qo, (qr, (qh, tt))))) a at) (WpFn 𝓤 H C Λ code.function (sf ∷ mach day y ∷ se ∷ mach request p ∷ so ∷ sr ∷ sh ∷ []) Post)
       walk =
           qed W ((‵ (flft κf qf) ⊛ (‵ (flft κe qe) ⊛ (‵ (flft κo qo) ⊛ (‵ (flft κr qr) ⊛ (‵ (flft κh qh) ⊛ ‵ ftrue))))) ∷ ‵ (owns (ShrSlice (named 0) κf u8 ∷ R day ∷ MutSlice (named 1) κe (R booking) ∷ (R request) ∷ MutSlice (named 2) κo u64 ∷ MutSlice (named 3) κr u64 ∷ MutSlice (named 4) κh u64 ∷ []) a at) ∷ []) ∵ enter ! C Λ code.function (sf ∷ mach day y ∷ se ∷ mach request p ∷ so ∷ sr ∷ sh ∷ []) _ $
@@ -268,7 +268,7 @@ module _ (κf κe κo κr κh : Lft) (qf qe qo qr qh : Share) (bf of be oe bo oo
           keep ! (6 ∷ 1 ∷ 5 ∷ 4 ∷ 2 ∷ 16 ∷ 0 ∷ 10 ∷ 9 ∷ 7 ∷ []) $ by ! (exits′ r u zs (lasto rows ws) (lastr rows ws) (lasth rows ws) gr′ le lo lr lh (says-all rows z r zs (lasto rows ws) (lastr rows ws) (lasth rows ws) e₄ e₁ e₂ e₃)))))))))))))))))))))))))))))))))))))))
 
 module _ {M : Type 1} (𝓤 : URA M) (H : Heap 𝓤) (A : Atoms 𝓤) (W : Given 𝓤 H A) (mem : Memory → SProp 𝓤) (run : Routine → Fun 𝓤) where
-  walks : (C : Calls 𝓤 H) (Λ : Loops 𝓤 H) → FmC 𝓤 H (W .laws) C → Triple 𝓤 (C #lent·records·load) (Load 𝓤 H A mem run) → Triple 𝓤 (C #booking·book) (Core 𝓤 H A mem run) → Triple 𝓤 (C #lent·records·store) (Store 𝓤 H A mem run) → Triple 𝓤 (C #lent·reply·reply-of) (ReplyOf 𝓤 H A mem run)
+  walks : (C : Calls 𝓤 H) (Λ : Loops 𝓤 H) → FmC 𝓤 H (W .laws) C → Triple 𝓤 (C #lent·records·load) (Load 𝓤 H A mem run) → Triple 𝓤 (C #booking·book) (Core 𝓤 H A mem run) → Triple 𝓤 (C #lent·records·store) (Store 𝓤 H A mem run) → Triple 𝓤 (C #interface·reply·reply-of) (ReplyOf 𝓤 H A mem run)
       → Walks 𝓤 H A f.ended stayed (WpFn 𝓤 H C Λ code.function) (f.clauses 𝓤 H A mem run)
   walks C Λ fm k₁ k₂ k₃ k₄ = walked 𝓤 H A f.ended stayed (f.clauses 𝓤 H A mem run) (WpFn 𝓤 H C Λ code.function) (λ κs. (slice-vals, (vals day, (slice-vals, (vals request, (slice-vals, (slice-vals, (slice-vals, tt)))))))) (λ κs. (shr-slice-tells (named 0) (κs .0) u8, (tells day, (mut-slice-tells (named 1) (κs .1 .0) (R booking), (tells request, (mut-slice-tells (named 2) (κs .1 .1 .0) u64, (mut-slice-tells (named 3) (κs .1 .1 .1 .0) u64, (mut-slice-tells (named 4) (κs .1 .1 .1 .1 .0) u64, tt))))))))
       (λ κs qs bounds a g are. via 𝓤 _ (fst∗ 𝓤 _ (emp 𝓤)) (walk (κs .0) (κs .1 .0) (κs .1 .1 .0) (κs .1 .1 .1 .0) (κs .1 .1 .1 .1 .0) (qs .0) (qs .1 .0) (qs .1 .1 .0) (qs .1 .1 .1 .0) (qs .1 .1 .1 .1 .0)
@@ -276,7 +276,7 @@ module _ {M : Type 1} (𝓤 : URA M) (H : Heap 𝓤) (A : Atoms 𝓤) (W : Given
       (a .0 .name) (a .1 .1 .0 .name) (a .1 .1 .1 .1 .0 .name) (a .1 .1 .1 .1 .1 .0 .name) (a .1 .1 .1 .1 .1 .1 .0 .name) (a .0 .now) (a .1 .0) (a .1 .1 .0 .now) (a .1 .1 .1 .0) (a .1 .1 .1 .1 .0 .now) (a .1 .1 .1 .1 .1 .0 .now) (a .1 .1 .1 .1 .1 .1 .0 .now)
       𝓤 H A W mem run (are .1 .0) (are .1 .1 .1 .0) (are .0 .0 .1) (are .1 .1 .0 .0 .1) (are .1 .1 .1 .1 .0 .0 .1) (are .1 .1 .1 .1 .1 .0 .0 .1) (are .1 .1 .1 .1 .1 .1 .0 .0 .1) C Λ fm k₁ k₂ k₃ k₄))
 
-meets : {M : Type 1} (𝓤 : URA M) (H : Heap 𝓤) (A : Atoms 𝓤) (W : Given 𝓤 H A) (mem : Memory → SProp 𝓤) (run : Routine → Fun 𝓤) (𝓣 : Tables 𝓤 H) → Triple 𝓤 (𝓣 .C #lent·records·load) (Load 𝓤 H A mem run) → Triple 𝓤 (𝓣 .C #booking·book) (Core 𝓤 H A mem run) → Triple 𝓤 (𝓣 .C #lent·records·store) (Store 𝓤 H A mem run) → Triple 𝓤 (𝓣 .C #lent·reply·reply-of) (ReplyOf 𝓤 H A mem run)
+meets : {M : Type 1} (𝓤 : URA M) (H : Heap 𝓤) (A : Atoms 𝓤) (W : Given 𝓤 H A) (mem : Memory → SProp 𝓤) (run : Routine → Fun 𝓤) (𝓣 : Tables 𝓤 H) → Triple 𝓤 (𝓣 .C #lent·records·load) (Load 𝓤 H A mem run) → Triple 𝓤 (𝓣 .C #booking·book) (Core 𝓤 H A mem run) → Triple 𝓤 (𝓣 .C #lent·records·store) (Store 𝓤 H A mem run) → Triple 𝓤 (𝓣 .C #interface·reply·reply-of) (ReplyOf 𝓤 H A mem run)
     → Meets 𝓤 H A f.signature (WpFn 𝓤 H (𝓣 .C) (𝓣 .Λ) code.function) (f.spec 𝓤 H A mem run)
 meets 𝓤 H A W mem run 𝓣 k₁ k₂ k₃ k₄ =
     walk-meets 𝓤 H A f.ended stayed W (goes-none-slice 𝓤 H A W 5 (0 ∷ []) tt (plain (λ _. u8)) yes, (goes-none 𝓤 H A W 5 (λ _. R day) yes (λ κs x f. refl), (goes-slice 𝓤 H A W 5 1 tt (plain (λ _. R booking)), (goes-none 𝓤 H A W 5 (λ _. (R request)) yes (λ κs x f. refl), (goes-gave-slice 𝓤 H A W 5 2 tt (plain (λ _. u64)), (goes-gave-slice 𝓤 H A W 5 3 tt (plain (λ _. u64)), (goes-gave-slice 𝓤 H A W 5 4 tt (plain (λ _. u64)), tt))))))) (f.clauses 𝓤 H A mem run)
@@ -291,4 +291,4 @@ playback-book-spec 𝓤 H 𝓜 𝓖 𝓡 =
     (cited 𝓤 H (Load 𝓤 H (𝓖 .A) (𝓜 .mem) (𝓡 .run)) 𝓜 𝓡 code.env #lent·records·load load-def.routine code.calls-lent·records·load (load-thm.met 𝓤 H 𝓜 𝓖 𝓡))
     (cited 𝓤 H (Core 𝓤 H (𝓖 .A) (𝓜 .mem) (𝓡 .run)) 𝓜 𝓡 code.env #booking·book core-def.routine code.calls-booking·book (core-thm.met 𝓤 H 𝓜 𝓖 𝓡))
     (cited 𝓤 H (Store 𝓤 H (𝓖 .A) (𝓜 .mem) (𝓡 .run)) 𝓜 𝓡 code.env #lent·records·store store-def.routine code.calls-lent·records·store (store-thm.met 𝓤 H 𝓜 𝓖 𝓡))
-    (cited 𝓤 H (ReplyOf 𝓤 H (𝓖 .A) (𝓜 .mem) (𝓡 .run)) 𝓜 𝓡 code.env #lent·reply·reply-of reply-def.routine code.calls-lent·reply·reply-of (reply-thm.met 𝓤 H 𝓜 𝓖 𝓡)))
+    (cited 𝓤 H (ReplyOf 𝓤 H (𝓖 .A) (𝓜 .mem) (𝓡 .run)) 𝓜 𝓡 code.env #interface·reply·reply-of reply-def.routine code.calls-interface·reply·reply-of (reply-thm.met 𝓤 H 𝓜 𝓖 𝓡)))

@@ -44,24 +44,24 @@ use denote.Enum.Laws as EL
 use Rattle.model.specs.declared.Booking.{Booking}
 use Rattle.model.specs.declared.Line.{Line}
 use Rattle.model.specs.declared.Day.{Day}
-use Rattle.lent.specs.Rounds.{Rounds}
-use Rattle.lent.specs.DeskLaws.{play-over}
+use Rattle.interface.specs.Rounds.{Rounds}
+use Rattle.interface.specs.DeskLaws.{play-over}
 use Rattle.model.proofs.Answer as An
 use Rattle.model.proofs.Answer.Laws as An′
-use Rattle.lent.specs.declared.rounds.Round.{Round}
-use Rattle.lent.proofs.rounds.Round as O
-use Rattle.lent.proofs.rounds.Round.Laws as O′
-use Rattle.lent.proofs.rounds.play_round as bk
-use Rattle.lent.proofs.rounds.play_round.Symbol as core-def
-use Rattle.lent.proofs.rounds.play_round.Symbol.{name as #lent·rounds·play-round}
-use Rattle.lent.proofs.rounds.play_round.Met as core-thm
-use Rattle.lent.specs.Records.{loaded, stored}
-use Rattle.lent.specs.DeskCalls.{PlaysOver}
-use Rattle.lent.specs.Reply.{replyOf}
-use Rattle.lent.specs.declared.reply.Reply.{Reply}
-use Rattle.lent.proofs.reply.reply_of.Symbol as reply-def
-use Rattle.lent.proofs.reply.reply_of.Symbol.{name as #lent·reply·reply-of}
-use Rattle.lent.proofs.reply.reply_of.Met as reply-thm
+use Rattle.interface.specs.declared.rounds.Round.{Round}
+use Rattle.interface.proofs.rounds.Round as O
+use Rattle.interface.proofs.rounds.Round.Laws as O′
+use Rattle.interface.proofs.rounds.play_round as bk
+use Rattle.interface.proofs.rounds.play_round.Symbol as core-def
+use Rattle.interface.proofs.rounds.play_round.Symbol.{name as #interface·rounds·play-round}
+use Rattle.interface.proofs.rounds.play_round.Met as core-thm
+use Rattle.interface.specs.Records.{loaded, stored}
+use Rattle.interface.specs.DeskCalls.{PlaysOver}
+use Rattle.interface.specs.Reply.{replyOf}
+use Rattle.interface.specs.declared.reply.Reply.{Reply}
+use Rattle.interface.proofs.reply.reply_of.Symbol as reply-def
+use Rattle.interface.proofs.reply.reply_of.Symbol.{name as #interface·reply·reply-of}
+use Rattle.interface.proofs.reply.reply_of.Met as reply-thm
 use Rattle.lent.proofs.Rows.{Kind, R, cell, mach, vals, tells, makes, typed, Arr, amakes, atyped, rows-is}
 use Rattle.lent.proofs.Shapes.{booking, line, reply, day}
 use Rattle.lent.proofs.Calls.{Load, Write, ReplyOf, loads-shared, writes, replies}
@@ -158,7 +158,7 @@ module _ (κf κe κl : Lft) (qf qe ql : Share) (bf of be oe bl ol : ℕ) (γf �
         qed W (‵ (flft κf qf) ∷ ‵ (ShrSlice (named 0) κf u8 .own xf (sf ∷ [])) ∷ []) ∵
         nothing ! $ owned ! u64 (Is u64) (uint-makes 𝓤 H A W w64) (length yl) _ (refl, rml .0) $ fjoin ! $ owned ! u64 (Is u64) (uint-makes 𝓤 H A W w64) (length ye) _ (refl, rme .0) $ fjoin ! $ owned ! (Arr booking) (Is (Arr booking)) (amakes booking 𝓤 H A W) rows _ is $ fjoin ! $ owned ! (R day) (Is (R day)) (makes day 𝓤 H A) y _ gy $ fjoin ! $ move ! (2 ∷ 0 ∷ []) $ fjoin ! $ nothing ! $ move ! (2 ∷ 0 ∷ []) $ join ! $ join ! $ frame ! $ done !
 
-    module _ (C : Calls 𝓤 H) (Λ : Loops 𝓤 H) (fm : FmC 𝓤 H (W .laws) C) (known-load : Triple 𝓤 (C #lent·records·load) (Load 𝓤 H A mem run)) (known-core : Triple 𝓤 (C #lent·rounds·play-round) (Core 𝓤 H A mem run)) (known-write : Triple 𝓤 (C #lent·records·write) (Write 𝓤 H A mem run)) (known-reply : Triple 𝓤 (C #lent·reply·reply-of) (ReplyOf 𝓤 H A mem run)) where
+    module _ (C : Calls 𝓤 H) (Λ : Loops 𝓤 H) (fm : FmC 𝓤 H (W .laws) C) (known-load : Triple 𝓤 (C #lent·records·load) (Load 𝓤 H A mem run)) (known-core : Triple 𝓤 (C #interface·rounds·play-round) (Core 𝓤 H A mem run)) (known-write : Triple 𝓤 (C #lent·records·write) (Write 𝓤 H A mem run)) (known-reply : Triple 𝓤 (C #interface·reply·reply-of) (ReplyOf 𝓤 H A mem run)) where
       walk : ent 𝓤 (onEntry 𝓤 H A f.signature (κf, (κe, (κl, tt))) (qf, (qe, (ql, tt))) a at) (WpFn 𝓤 H C Λ code.function (sf ∷ mach day y ∷ se ∷ sl ∷ []) Post)
       walk =
           qed W ((‵ (flft κf qf) ⊛ (‵ (flft κe qe) ⊛ (‵ (flft κl ql) ⊛ ‵ ftrue))) ∷ ‵ (owns (ShrSlice (named 0) κf u8 ∷ R day ∷ ShrSlice (named 1) κe (R booking) ∷ MutSlice (named 2) κl (R line) ∷ []) a at) ∷ []) ∵ enter ! C Λ code.function (sf ∷ mach day y ∷ se ∷ sl ∷ []) _ $
@@ -202,7 +202,7 @@ module _ (κf κe κl : Lft) (qf qe ql : Share) (bf of be oe bl ol : ℕ) (γf �
           keep ! (2 ∷ 6 ∷ 1 ∷ 4 ∷ 5 ∷ 0 ∷ []) $ by ! (exits′ r u ls gr′ ll (says-all rows z r ls e₄ e₁ e₂ e₃)))))))))))))))))))))))))
 
 module _ {M : Type 1} (𝓤 : URA M) (H : Heap 𝓤) (A : Atoms 𝓤) (W : Given 𝓤 H A) (mem : Memory → SProp 𝓤) (run : Routine → Fun 𝓤) where
-  walks : (C : Calls 𝓤 H) (Λ : Loops 𝓤 H) → FmC 𝓤 H (W .laws) C → Triple 𝓤 (C #lent·records·load) (Load 𝓤 H A mem run) → Triple 𝓤 (C #lent·rounds·play-round) (Core 𝓤 H A mem run) → Triple 𝓤 (C #lent·records·write) (Write 𝓤 H A mem run) → Triple 𝓤 (C #lent·reply·reply-of) (ReplyOf 𝓤 H A mem run)
+  walks : (C : Calls 𝓤 H) (Λ : Loops 𝓤 H) → FmC 𝓤 H (W .laws) C → Triple 𝓤 (C #lent·records·load) (Load 𝓤 H A mem run) → Triple 𝓤 (C #interface·rounds·play-round) (Core 𝓤 H A mem run) → Triple 𝓤 (C #lent·records·write) (Write 𝓤 H A mem run) → Triple 𝓤 (C #interface·reply·reply-of) (ReplyOf 𝓤 H A mem run)
       → Walks 𝓤 H A f.ended stayed (WpFn 𝓤 H C Λ code.function) (f.clauses 𝓤 H A mem run)
   walks C Λ fm k₁ k₂ k₃ k₄ = walked 𝓤 H A f.ended stayed (f.clauses 𝓤 H A mem run) (WpFn 𝓤 H C Λ code.function) (λ κs. (slice-vals, (vals day, (slice-vals, (slice-vals, tt))))) (λ κs. (shr-slice-tells (named 0) (κs .0) u8, (tells day, (shr-slice-tells (named 1) (κs .1 .0) (R booking), (mut-slice-tells (named 2) (κs .1 .1 .0) (R line), tt)))))
       (λ κs qs bounds a g are. via 𝓤 _ (fst∗ 𝓤 _ (emp 𝓤)) (walk (κs .0) (κs .1 .0) (κs .1 .1 .0) (qs .0) (qs .1 .0) (qs .1 .1 .0)
@@ -210,7 +210,7 @@ module _ {M : Type 1} (𝓤 : URA M) (H : Heap 𝓤) (A : Atoms 𝓤) (W : Given
       (a .0 .name) (a .1 .1 .0 .name) (a .1 .1 .1 .0 .name) (a .0 .now) (a .1 .0) (a .1 .1 .0 .now) (a .1 .1 .1 .0 .now)
       𝓤 H A W mem run (are .1 .0) (are .0 .0 .1) (are .1 .1 .0 .0 .1) (are .1 .1 .1 .0 .0 .1) C Λ fm k₁ k₂ k₃ k₄))
 
-meets : {M : Type 1} (𝓤 : URA M) (H : Heap 𝓤) (A : Atoms 𝓤) (W : Given 𝓤 H A) (mem : Memory → SProp 𝓤) (run : Routine → Fun 𝓤) (𝓣 : Tables 𝓤 H) → Triple 𝓤 (𝓣 .C #lent·records·load) (Load 𝓤 H A mem run) → Triple 𝓤 (𝓣 .C #lent·rounds·play-round) (Core 𝓤 H A mem run) → Triple 𝓤 (𝓣 .C #lent·records·write) (Write 𝓤 H A mem run) → Triple 𝓤 (𝓣 .C #lent·reply·reply-of) (ReplyOf 𝓤 H A mem run)
+meets : {M : Type 1} (𝓤 : URA M) (H : Heap 𝓤) (A : Atoms 𝓤) (W : Given 𝓤 H A) (mem : Memory → SProp 𝓤) (run : Routine → Fun 𝓤) (𝓣 : Tables 𝓤 H) → Triple 𝓤 (𝓣 .C #lent·records·load) (Load 𝓤 H A mem run) → Triple 𝓤 (𝓣 .C #interface·rounds·play-round) (Core 𝓤 H A mem run) → Triple 𝓤 (𝓣 .C #lent·records·write) (Write 𝓤 H A mem run) → Triple 𝓤 (𝓣 .C #interface·reply·reply-of) (ReplyOf 𝓤 H A mem run)
     → Meets 𝓤 H A f.signature (WpFn 𝓤 H (𝓣 .C) (𝓣 .Λ) code.function) (f.spec 𝓤 H A mem run)
 meets 𝓤 H A W mem run 𝓣 k₁ k₂ k₃ k₄ =
     walk-meets 𝓤 H A f.ended stayed W (goes-none-slice 𝓤 H A W 3 (0 ∷ []) tt (plain (λ _. u8)) yes, (goes-none 𝓤 H A W 3 (λ _. R day) yes (λ κs x f. refl), (goes-none-slice 𝓤 H A W 3 (1 ∷ []) tt (plain (λ _. R booking)) yes, (goes-gave-slice 𝓤 H A W 3 2 tt (plain (λ _. R line)), tt)))) (f.clauses 𝓤 H A mem run)
@@ -223,6 +223,6 @@ playback-play-spec 𝓤 H 𝓜 𝓖 𝓡 =
     (tables 𝓤 H 𝓜 𝓡 code.env .C) (tables 𝓤 H 𝓜 𝓡 code.env .Λ) #lent·desk·playback-play code.function (code.unfolded 𝓤 H 𝓜 𝓡)
     (meets 𝓤 H (𝓖 .A) (givenOf 𝓤 H 𝓜 𝓖) (𝓜 .mem) (𝓡 .run) (tablesOf 𝓤 H 𝓜 (tables 𝓤 H 𝓜 𝓡 code.env))
     (cited 𝓤 H (Load 𝓤 H (𝓖 .A) (𝓜 .mem) (𝓡 .run)) 𝓜 𝓡 code.env #lent·records·load load-def.routine code.calls-lent·records·load (load-thm.met 𝓤 H 𝓜 𝓖 𝓡))
-    (cited 𝓤 H (Core 𝓤 H (𝓖 .A) (𝓜 .mem) (𝓡 .run)) 𝓜 𝓡 code.env #lent·rounds·play-round core-def.routine code.calls-lent·rounds·play-round (core-thm.met 𝓤 H 𝓜 𝓖 𝓡))
+    (cited 𝓤 H (Core 𝓤 H (𝓖 .A) (𝓜 .mem) (𝓡 .run)) 𝓜 𝓡 code.env #interface·rounds·play-round core-def.routine code.calls-interface·rounds·play-round (core-thm.met 𝓤 H 𝓜 𝓖 𝓡))
     (cited 𝓤 H (Write 𝓤 H (𝓖 .A) (𝓜 .mem) (𝓡 .run)) 𝓜 𝓡 code.env #lent·records·write write-def.routine code.calls-lent·records·write (write-thm.met 𝓤 H 𝓜 𝓖 𝓡))
-    (cited 𝓤 H (ReplyOf 𝓤 H (𝓖 .A) (𝓜 .mem) (𝓡 .run)) 𝓜 𝓡 code.env #lent·reply·reply-of reply-def.routine code.calls-lent·reply·reply-of (reply-thm.met 𝓤 H 𝓜 𝓖 𝓡)))
+    (cited 𝓤 H (ReplyOf 𝓤 H (𝓖 .A) (𝓜 .mem) (𝓡 .run)) 𝓜 𝓡 code.env #interface·reply·reply-of reply-def.routine code.calls-interface·reply·reply-of (reply-thm.met 𝓤 H 𝓜 𝓖 𝓡)))
