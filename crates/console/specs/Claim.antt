@@ -9,13 +9,15 @@ use Rattle.model.specs.Fit.{Fits}
 use Rattle.model.specs.declared.Booking.{Booking}
 use Rattle.commands.specs.Grammar.{commandOf}
 use Rattle.commands.specs.declared.Command.{Command}
-use Rattle.lines.specs.Lines.{lines, commandHeld, started, given}
+use Rattle.lines.specs.Lines.{lines, started}
 use Rattle.lines.specs.Splits.{session-commands}
 use Rattle.text.specs.Digits.{outputBytes}
-use Rattle.console.specs.Session.{SessionState, atStart, stateAfter, sessionText}
-use Rattle.console.specs.PlainSession.{PlainSession, unopened, plainCommand, plainOutput}
+use Rattle.console.specs.Session.{SessionState, atStart, stateAfter, sessionText, sessionEnd}
+use Rattle.console.specs.PlainSession.{PlainSession, unopened, plainCommand, plainOutput, plainEnd}
 use Rattle.console.specs.Contract.{printed}
+use Rattle.console.specs.Input.{servedText}
 use Rattle.console.specs.Stepping.{printed-text}
+use Rattle.console.specs.InputLaws.{served-printed}
 use Rattle.console.specs.PlainLaws.{Stands, keeps}
 
 -- `fits` is any decision which lists of bookings fit in a setting (model/specs/FitLaws.antt, `decFits`, is one)
@@ -27,13 +29,24 @@ module _ (file : List ℕ) (fits : (S : Setting) (bs : List Booking) → Dec (Fi
       let k = keeps file fits s p c w in
       ap₂ (λ (t u : List ℕ). t ++ u) (k .text) (runs cs (stateAfter file s c) (plainCommand file fits p c .after) (k .after))
 
+  ends : (cs : List Command) (s : SessionState) (p : PlainSession) → Stands file fits s p
+      → Stands file fits (sessionEnd file s cs) (plainEnd file fits p cs)
+  ends [] s p w = w
+  ends (c ∷ cs) s p w = ends cs (stateAfter file s c) (plainCommand file fits p c .after) (keeps file fits s p c w .after)
+
+  -- after a list of commands day, records and sheet are those that the plain day expects (PlainLaws.antt, `Stands`)
+  pub session-stands : (cs : List Command) → Stands file fits (sessionEnd file atStart cs) (plainEnd file fits unopened cs)
+  session-stands cs = ends cs atStart unopened refl
+
   -- a list of commands, each carried out by `step` on what the last one left, with any buffer that has room
   pub session-plain : (buffer : List ℕ) → outputBytes ≤ length buffer → (cs : List Command)
       → printed file atStart buffer cs ≡ plainOutput file fits unopened cs
   session-plain buffer room cs = printed-text file cs atStart buffer room ∙ runs cs atStart unopened refl
 
-  -- an input, whose lines the splitter gives out as its bytes come: the commands are those of its lines
+  -- an input, served byte by byte: its lines are answered as they end
   pub input-plain : (buffer : List ℕ) → outputBytes ≤ length buffer → (input : List ℕ)
-      → printed file atStart buffer (map commandHeld (given started input)) ≡ plainOutput file fits unopened (map commandOf (lines input))
+      → servedText file atStart started buffer input ≡ plainOutput file fits unopened (map commandOf (lines input))
   input-plain buffer room input =
-      ap (printed file atStart buffer) (session-commands input) ∙ session-plain buffer room (map commandOf (lines input))
+      served-printed file input atStart started buffer
+      ∙ ap (printed file atStart buffer) (session-commands input)
+      ∙ session-plain buffer room (map commandOf (lines input))

@@ -83,3 +83,8 @@ module _ (file : List ℕ) (fits : (S : Setting) (bs : List Booking) → Dec (Fi
   abbrev pub plainOutput : PlainSession → List Command → List ℕ
   plainOutput p [] = []
   plainOutput p (c ∷ cs) = plainText p c ++ plainOutput (plainCommand p c .after) cs
+
+  -- and where it leaves the session
+  abbrev pub plainEnd : PlainSession → List Command → PlainSession
+  plainEnd p [] = p
+  plainEnd p (c ∷ cs) = plainEnd (plainCommand p c .after) cs

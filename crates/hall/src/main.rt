@@ -1,9 +1,9 @@
 // The program: films.bin, then the commands of standard input, each answered at once on standard output.
-use commands::Command;
+use console::OUTPUT_BYTES;
 use console::Session;
-use console::step;
+use console::serve::serve_end;
+use console::serve::serve_line;
 use films::catalogue::verdict;
-use io::read_full;
 use io::write_all;
 use libc::STDIN_FILENO;
 use libc::STDOUT_FILENO;
@@ -11,25 +11,18 @@ use limits::bounds::HALL_FILE;
 use limits::bounds::HALL_ROUNDS;
 use limits::refusals::FILE_SIZE;
 use lines::Splitter;
-use lines::command;
-use lines::feed;
 use model::Answer;
+use text::MAX_TEXT;
 use text::Written;
 use text::write_answer;
-ghost use Prim.Native.Nat.{_<_, _≤_};
+ghost use Prim.Native.Nat.{_≤_};
 ghost use lib.ListN.{length};
 ghost use Rattle.io.specs.Counts.{Counts};
 
-// bytes of the output buffer: an answer and the longest report fit
-const OUTPUT: usize = 8192;
+// bytes of the film file's buffer: one more than the program takes, so that it sees a file that is too long
+const FILE_BUFFER: usize = HALL_FILE + 1;
 
-// The splitter after some bytes, and the place of the next one.
-struct Fed {
-    splitter: Splitter,
-    next: usize,
-}
-
-// What stands between two reads: the line that is being read, and the session.
+// What stands between two reads: the line that is being read, the session, and whether the input may have more.
 struct Hall {
     splitter: Splitter,
     session: Session,
@@ -47,20 +40,43 @@ fn front(bytes: &[u8], length: usize) -> usize
     }
 }
 
+// Prints the bytes at the front of a buffer.
+fn print(out: &[u8], length: usize) {
+    let n = front(out, length);
+    write_all(STDOUT_FILENO, &out[..n]);
+}
+
 // Prints the refusal of the film file.
 fn refuse(number: u32) {
-    let mut out = [0u8; 128];
+    let mut out = [0u8; MAX_TEXT];
     let written = write_answer(&mut out, 0, 0, 0, Answer::Refused(number));
     match written {
-        Written::Next(next) => {
-            let n = front(&out, next);
-            write_all(STDOUT_FILENO, &out[..n]);
-        }
+        Written::Next(next) => print(&out, next),
         Written::NoRoom => {}
     }
 }
 
-// Reads the film file into the buffer, and gives its length. A file that is missing or cannot be read counts as empty.
+// Reads a file until it ends or the buffer is full, and gives how many bytes it put there. A file that cannot be read to its
+// end counts as empty.
+fn read_whole(fd: i32, bytes: &mut [u8]) -> usize
+    ensures { λ r. ⌜ r ≤ length (now (bytes .exit)) ⌝ }
+{
+    let mut done = 0;
+    while done < bytes.len() {
+        let got = libc::read(fd, &mut bytes[done..]);
+        if got < 0 {
+            return 0;
+        }
+        let n = io::count(got, &bytes[done..]);
+        if n == 0 {
+            return done;
+        }
+        done += n;
+    }
+    done
+}
+
+// Reads the film file into the buffer, and gives its length. A file that is missing counts as empty.
 fn read_films(bytes: &mut [u8]) -> usize
     ensures { λ r. ⌜ Counts r (now (bytes .exit)) ⌝ }
 {
@@ -68,67 +84,12 @@ fn read_films(bytes: &mut [u8]) -> usize
     if fd < 0 {
         return 0;
     }
-    let n = read_full(fd, bytes);
+    let n = read_whole(fd, bytes);
     libc::close(fd);
-    n
+    front(bytes, n)
 }
 
-// Feeds bytes from a place on, up to the end of a line or of the bytes.
-fn feed_some(s: Splitter, bytes: &[u8], from: usize) -> Fed
-    requires { ⌜ from < length (now bytes) ⌝ }
-    ensures { λ r. ⌜ (from < r .next) × (r .next ≤ length (now (bytes .entry))) ⌝ }
-{
-    let mut splitter = feed(s, bytes[from]);
-    let mut next = from + 1;
-    while next < bytes.len() && !splitter.ended {
-        splitter = feed(splitter, bytes[next]);
-        next += 1;
-    }
-    Fed { splitter, next }
-}
-
-// Answers a command on standard output.
-fn answer(
-    file: &[u8],
-    session: Session,
-    command: Command,
-    opens: &mut [u64],
-    reserves: &mut [u64],
-    helds: &mut [u64],
-    out: &mut [u8],
-) -> Session {
-    let stepped = step(file, session, command, opens, reserves, helds, out);
-    let n = front(out, stepped.length);
-    write_all(STDOUT_FILENO, &out[..n]);
-    let next = stepped.session;
-    next
-}
-
-// Answers the line held, if it is complete.
-fn answer_ended(
-    file: &[u8],
-    session: Session,
-    splitter: Splitter,
-    opens: &mut [u64],
-    reserves: &mut [u64],
-    helds: &mut [u64],
-    out: &mut [u8],
-) -> Session {
-    if splitter.ended {
-        return answer(
-            file,
-            session,
-            command(splitter),
-            opens,
-            reserves,
-            helds,
-            out,
-        );
-    }
-    session
-}
-
-// Takes bytes of the input, and answers each line that they end.
+// Takes bytes of the input, and prints the answer of each line that they end.
 fn take_bytes(
     file: &[u8],
     hall: Hall,
@@ -142,10 +103,21 @@ fn take_bytes(
     let mut session = hall.session;
     let mut at = 0;
     while at < bytes.len() {
-        let fed = feed_some(splitter, bytes, at);
-        splitter = fed.splitter;
-        at = fed.next;
-        session = answer_ended(file, session, splitter, opens, reserves, helds, out);
+        let served = serve_line(
+            file,
+            session,
+            splitter,
+            bytes,
+            at,
+            opens,
+            reserves,
+            helds,
+            out,
+        );
+        print(out, served.length);
+        splitter = served.splitter;
+        session = served.session;
+        at = served.next;
     }
     Hall {
         splitter,
@@ -174,8 +146,8 @@ fn read_some(
     take_bytes(file, hall, &input[..n], opens, reserves, helds, out)
 }
 
-// Reads and answers until the input ends. A proved loop has to end, and nothing says that the input does: so the loop counts
-// its turns down, from a number that no run uses up.
+// Reads and answers until the input ends. Every proved loop has to end, and nothing says that the input does: so this one counts
+// down its turns, each of which reads at least a byte, from 2^64 - 1, which no run uses up.
 fn read_all(
     file: &[u8],
     opens: &mut [u64],
@@ -201,17 +173,8 @@ fn serve(file: &[u8], opens: &mut [u64], reserves: &mut [u64], helds: &mut [u64]
     let hall = read_all(file, opens, reserves, helds, out);
     let splitter = hall.splitter;
     let session = hall.session;
-    if !splitter.ended {
-        answer(
-            file,
-            session,
-            command(splitter),
-            opens,
-            reserves,
-            helds,
-            out,
-        );
-    }
+    let stepped = serve_end(file, session, splitter, opens, reserves, helds, out);
+    print(out, stepped.length);
 }
 
 // Serves a session with this film file, whose sheet is the program's.
@@ -219,12 +182,12 @@ fn run(file: &[u8]) {
     let mut opens = [0u64; HALL_ROUNDS];
     let mut reserves = [0u64; HALL_ROUNDS];
     let mut helds = [0u64; HALL_ROUNDS];
-    let mut out = [0u8; OUTPUT];
+    let mut out = [0u8; OUTPUT_BYTES];
     serve(file, &mut opens, &mut reserves, &mut helds, &mut out);
 }
 
 fn main() {
-    let mut bytes = [0u8; HALL_FILE + 1];
+    let mut bytes = [0u8; FILE_BUFFER];
     let n = read_films(&mut bytes);
     if HALL_FILE < n {
         refuse(FILE_SIZE);

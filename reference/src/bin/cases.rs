@@ -2,7 +2,7 @@
 //! `cases FAMILY FOLDER --check` writes nothing and fails if the files there are not what it would write.
 #![forbid(unsafe_code)]
 
-use reference::cases::{desk, films, schedules, sessions};
+use reference::cases::{desk, figures, films, schedules, sessions};
 use reference::console;
 use std::path::Path;
 use std::process::ExitCode;
@@ -38,6 +38,7 @@ fn family(name: &str) -> Option<Vec<File>> {
         "schedules" => script(schedules::script(), schedules::run),
         "desk" => script(desk::script(), desk::run),
         "sessions" => script(sessions::script(), sessions::run),
+        "figures" => vec![("stdout", figures::output())],
         "hall" => program(),
         _ => return None,
     })
@@ -57,7 +58,7 @@ fn main() -> ExitCode {
         [name, folder] => (name, folder, false),
         [name, folder, "--check"] => (name, folder, true),
         _ => {
-            eprintln!("usage: cases films|schedules|desk|sessions|hall FOLDER [--check]");
+            eprintln!("usage: cases films|schedules|desk|sessions|figures|hall FOLDER [--check]");
             return ExitCode::FAILURE;
         }
     };

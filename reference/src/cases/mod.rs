@@ -6,6 +6,7 @@
 
 pub mod checksum;
 pub mod desk;
+pub mod figures;
 pub mod file_buffer;
 pub mod films;
 pub mod random;

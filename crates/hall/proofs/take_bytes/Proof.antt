@@ -1,8 +1,9 @@
--- `hall::take_bytes` meets its contract. The measure is what is left of the bytes: feeding moves on by at least one. Assumes nothing.
-use Prim.Native.Nat.{ℕ, _+_, _-_, _*_, _<_, _≤_}
-use mathlib.Core.Path.{_≡_, refl, sym, ap, _∙_}
+-- `hall::take_bytes` meets its contract. The measure is what is left of the bytes: serving a line moves on by at least one.
+-- Assumes nothing.
+use Prim.Native.Nat.{_-_}
+use mathlib.Core.Path.{_≡_}
 use native.Mathlib.Omega.{arith}
-use lib.ListN.{length, take, drop, getD, set}
+use lib.ListN.{length}
 use borrow.Author.Needs.{needs}
 use Rattle.hall.proofs.take_bytes.Statement.{statement}
 use Rattle.hall.proofs.take_bytes.Tie as tie
@@ -18,14 +19,18 @@ abbrev μ-loop : tie.MeasureT-loop
 loop-holds : tie.Need-loop-holds Inv-loop μ-loop
 loop-holds c = search needs
 
-feed-some-requires : tie.Need-feed-some-requires Inv-loop μ-loop
-feed-some-requires c κs = search needs
+serve-line-requires : tie.Need-serve-line-requires Inv-loop μ-loop
+serve-line-requires c κs = search needs
 
-answer-ended-requires : tie.Need-answer-ended-requires Inv-loop μ-loop
-answer-ended-requires c κs = search needs
+print-requires : tie.Need-print-requires Inv-loop μ-loop
+print-requires c κs = search needs
 
 loop-less : tie.Need-loop-less Inv-loop μ-loop
-loop-less c = search needs
+loop-less c =
+    let printed = c .before .before in
+    let served = printed .before .before .before .before .before .before .before .before .before .before in
+    let turn = served .before .before .before .before .before in
+    omega (arith, served .serve-line .ensures .moved (turn .loop-test .taken))
 
 loop-again : tie.Need-loop-again Inv-loop μ-loop
 loop-again c = search needs
@@ -52,8 +57,8 @@ take-bytes-spec =
     Inv-loop
     μ-loop
     loop-holds
-    feed-some-requires
-    answer-ended-requires
+    serve-line-requires
+    print-requires
     loop-less
     loop-again
     same-length

@@ -32,7 +32,8 @@ pub fn days(script: &mut Script) {
     ));
 }
 
-/// The films of two shifts on one cab, two rounds too early to two rounds late, with every pre-fetch up to 2.
+/// The films of two shifts on one cab, two rounds too early to two rounds late, with every pre-fetch up to 2, each played
+/// past the shift change.
 pub fn shift_changes(script: &mut Script) {
     for leaving in 0..3 {
         for coming in 0..3 {
@@ -46,8 +47,8 @@ pub fn shift_changes(script: &mut Script) {
                     first + 1
                 )
                 .expect("text");
+                input += &"PLAY\n".repeat(24);
             }
-            input += &"PLAY\n".repeat(24);
             script.session(&input);
         }
     }
