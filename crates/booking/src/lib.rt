@@ -29,6 +29,7 @@ ghost use Rattle.model.specs.Code.{stateOf};
 ghost use Rattle.model.specs.FirstFit.{AnswersFirst};
 ghost use Rattle.model.specs.Fit.{FitsAt};
 ghost use Rattle.questions.specs.Given.{settingAt};
+ghost use Rattle.questions.specs.Numbers.{standingAsks};
 ghost use Rattle.booking.specs.Contract.{Leaves, bookAsks};
 
 // What a booking gives: the answer, the day and the list's first 256 places.
@@ -36,28 +37,6 @@ pub struct Outcome {
     pub answer: Answer,
     pub day: Day,
     pub rows: [Booking; MAX_BOOKINGS],
-}
-
-// The number of the first question but 22 that says no; 0 if none does. c is the file's catalogue.
-fn book_number(
-    file: &[u8],
-    c: Catalogue,
-    day: Day,
-    rows: [Booking; MAX_BOOKINGS],
-    places: u64,
-    q: Request,
-    opens: usize,
-    reserves: usize,
-    helds: usize,
-) -> u32
-    requires { ⌜ c ≡ catalogueOf (now file) ⌝ }
-    ensures { λ r. ⌜ r ≡ refusal (bookAsks (now (file .entry)) day rows places q opens reserves helds) ⌝ }
-{
-    let number = standing_number(file, c, day, rows, places, opens, reserves, helds);
-    if number != 0 {
-        return number;
-    }
-    own_number(file, c, day, rows, places, q)
 }
 
 // Places a request whose questions but 22 have passed: the sheet of the standing bookings is laid down, and the first start
@@ -117,6 +96,32 @@ fn place(
     }
 }
 
+// Booking where the file's questions, 14, 15, 11 and 16 have passed; c is the file's catalogue.
+pub fn book_standing(
+    file: &[u8],
+    c: Catalogue,
+    day: Day,
+    rows: [Booking; MAX_BOOKINGS],
+    places: u64,
+    q: Request,
+    opens: &mut [u64],
+    reserves: &mut [u64],
+    helds: &mut [u64],
+) -> Outcome
+    requires { ⌜ (c ≡ catalogueOf (now file)) × (refusal (standingAsks (now file) day rows places (length (now opens)) (length (now reserves)) (length (now helds))) ≡ 0) ⌝ }
+    ensures { λ r. ⌜ Leaves (settingAt (now (file .entry)) day) (bookCall (settingAt (now (file .entry)) day) (stateOf day rows places (now (opens .entry)) (now (reserves .entry)) (now (helds .entry))) q) (r .answer) (r .day) (r .rows) (now (opens .exit)) (now (reserves .exit)) (now (helds .exit)) ⌝ }
+{
+    let number = own_number(file, c, day, rows, places, q);
+    if number != 0 {
+        return Outcome {
+            answer: Answer::Refused(number),
+            day,
+            rows,
+        };
+    }
+    place(file, c, day, rows, places, q, opens, reserves, helds)
+}
+
 // Booking: the answer, the day, every record place and every place of the sheet afterwards are the model's, for every input.
 // Where the questions before 22 pass, a booking starts in the first round of its window at which some schedules fit, and is
 // refused 22 exactly when there is none.
@@ -134,13 +139,12 @@ pub fn book(
     ensures first { λ r. ⌜ (refusal (bookQuestions (settingAt (now (file .entry)) day) (stateOf day rows places (now (opens .entry)) (now (reserves .entry)) (now (helds .entry))) q) ≡ 0 → AnswersFirst (FitsAt (settingAt (now (file .entry)) day) (take (day .count) rows) q) (q .first) (q .last) (r .answer)) ⌝ }
 {
     let c = catalogue(file);
-    let number = book_number(
+    let number = standing_number(
         file,
         c,
         day,
         rows,
         places,
-        q,
         opens.len(),
         reserves.len(),
         helds.len(),
@@ -152,5 +156,5 @@ pub fn book(
             rows,
         };
     }
-    place(file, c, day, rows, places, q, opens, reserves, helds)
+    book_standing(file, c, day, rows, places, q, opens, reserves, helds)
 }

@@ -4,6 +4,7 @@ pub mod lines;
 
 use cabs::cabs_served;
 use films::catalogue::catalogue;
+use films::types::Catalogue;
 use limits::bounds::MAX_BOOKINGS;
 use limits::refusals::DAY_OVER;
 use limits::refusals::NO_ROOM;
@@ -15,6 +16,8 @@ use model::Line;
 use questions::standing::standing_number;
 ghost use mathlib.Core.Path.{_≡_};
 ghost use Rattle.laws.specs.Questions.{refusal};
+ghost use Rattle.films.specs.Catalogue.{catalogueOf};
+ghost use Rattle.questions.specs.Numbers.{standingAsks};
 ghost use Rattle.playing.specs.Contract.{refusedAs, Plays};
 ghost use Rattle.playing.specs.Laws.{ownAsks};
 
@@ -55,17 +58,18 @@ fn own_number(day: Day, films: u64, room: u64) -> u32
     0
 }
 
-// Plays the day's current round, with a report of `room` places: a line for each film open, the films open and the cabs served,
-// and the day one round later. Refused, the day is as it was. No sheet is looked at.
-pub fn play(file: &[u8], day: Day, rows: [Booking; MAX_BOOKINGS], places: u64, room: u64) -> Played
+// Playing where the file's questions, 14, 15 and 16 have passed; c is the file's catalogue.
+pub fn play_standing(
+    file: &[u8],
+    c: Catalogue,
+    day: Day,
+    rows: [Booking; MAX_BOOKINGS],
+    places: u64,
+    room: u64,
+) -> Played
+    requires { ⌜ (c ≡ catalogueOf (now file)) × (refusal (standingAsks (now file) day rows places (day .rounds) (day .rounds) (day .rounds)) ≡ 0) ⌝ }
     ensures { λ r. ⌜ Plays (now (file .entry)) day rows places room r ⌝ }
 {
-    let c = catalogue(file);
-    let t = day.rounds as usize;
-    let number = standing_number(file, c, day, rows, places, t, t, t);
-    if number != 0 {
-        return refused(number, day);
-    }
     let report = lines_of(file, c, day, rows);
     let own = own_number(day, report.open, room);
     if own != 0 {
@@ -84,4 +88,18 @@ pub fn play(file: &[u8], day: Day, rows: [Booking; MAX_BOOKINGS], places: u64, r
         },
         lines,
     }
+}
+
+// Plays the day's current round, with a report of `room` places: a line for each film open, the films open and the cabs served,
+// and the day one round later. Refused, the day is as it was. No sheet is looked at.
+pub fn play(file: &[u8], day: Day, rows: [Booking; MAX_BOOKINGS], places: u64, room: u64) -> Played
+    ensures { λ r. ⌜ Plays (now (file .entry)) day rows places room r ⌝ }
+{
+    let c = catalogue(file);
+    let t = day.rounds as usize;
+    let number = standing_number(file, c, day, rows, places, t, t, t);
+    if number != 0 {
+        return refused(number, day);
+    }
+    play_standing(file, c, day, rows, places, room)
 }

@@ -10,13 +10,31 @@ use Rattle.limits.specs.Refusals.{commandForm}
 use Rattle.model.specs.Day.{Setting, State}
 use Rattle.model.specs.Calls.{Outcome, refused, bookCall, dropCall, playCall}
 use Rattle.model.specs.Code.{stateOf, dayOf}
+use Rattle.model.specs.declared.Booking.{Booking}
+use Rattle.model.specs.declared.Day.{Day}
+use Rattle.model.specs.declared.Line.{Line}
+use Rattle.model.specs.declared.Answer.the-variants.{Refused}
 use Rattle.playing.specs.Lines.{noLine}
 use Rattle.playing.specs.Contract.{linesIn}
-use Rattle.replay.specs.Log.{loggedWords, Wrote}
+use Rattle.replay.specs.Log.{answerWords, loggedWords, Wrote}
 use Rattle.replay.specs.Contract.{Result}
 use Rattle.replay.specs.declared.journal.Entry.{Entry}
 use Rattle.replay.specs.declared.journal.Entry.the-variants.{Book, Drop, Play, Unknown}
 use Rattle.replay.specs.declared.step.Stepped.{Stepped}
+
+-- the report that an entry's call is lent: PLAY's has blank lines
+abbrev pub blankReport : Entry → List Line
+blankReport (Book q) = []
+blankReport (Drop name) = []
+blankReport (Play room) = replicate room noLine
+blankReport Unknown = []
+
+-- the number of an entry where the film file is refused with this one
+abbrev pub refusalOf : ℕ → Entry → ℕ
+refusalOf v (Book q) = v
+refusalOf v (Drop name) = v
+refusalOf v (Play room) = v
+refusalOf v Unknown = commandForm
 
 -- the words of an outcome
 abbrev pub outcomeWords : Outcome → List ℕ
@@ -37,7 +55,7 @@ abbrev pub noRun : State → DeskRun
 noRun d = record { entries = 0; words = []; state = d }
 
 module _ (S : Setting) where
-  -- an entry's call; PLAY is lent a report of blank lines
+  -- an entry's call
   abbrev pub carried : State → Entry → Outcome
   carried d (Book q) = bookCall S d q
   carried d (Drop name) = dropCall S d name
@@ -74,3 +92,10 @@ module _ (S : Setting) where
     pub record Steps : Type 0 where
       pub took : r .done ≡ true → Took
       pub kept : r .done ≡ false → Kept
+
+-- an entry that is refused with this number before its call
+pub record Refuses (number : ℕ) (before : Day) (list : List Booking) (old : List ℕ) (at : ℕ) (r : Stepped) (log′ : List ℕ) : Type 0 where
+  pub done : r .done ≡ true
+  pub day : r .day ≡ before
+  pub rows : r .rows ≡ list
+  pub wrote : Wrote old at (answerWords (Refused number)) log′ (r .next)

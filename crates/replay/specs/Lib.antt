@@ -11,6 +11,7 @@ pub mod Contract
 pub mod JournalLaws
 pub mod DeskRun
 pub mod RunLaws
+pub mod Pictured
 pub mod Writing
 pub mod StepLaws
 pub mod LoopLaws

@@ -18,6 +18,7 @@ use Rattle.replay.specs.Log.{Wrote}
 use Rattle.replay.specs.Writing.{wrote-length, wrote-front, wrote-back}
 use Rattle.replay.specs.Contract.{Result, Replays}
 use Rattle.replay.specs.DeskRun.{DeskRun, outcomeWords, afterRun, noRun, carried, deskRun, runResult, Took, Kept}
+use Rattle.replay.specs.Pictured.{Pictured, pictured-next}
 use Rattle.replay.specs.declared.Replayed.{Replayed}
 use Rattle.replay.specs.declared.journal.Entry.{Entry}
 use Rattle.replay.specs.declared.step.Stepped.{Stepped}
@@ -73,10 +74,11 @@ module _ (f : List ℕ) (day₀ : Day) (rows₀ : List Booking) (places : ℕ) (
     pub placed : at ≤ length log
     pub rest : drop at log ≡ drop at log₀
     pub fixed : settingAt f today ≡ settingAt f day₀
+    pub pictured : Pictured (settingAt f today) (stateOf today rows places opens reserves helds)
     pub run : whole ≡ afterRun i (take at log) (deskRun (settingAt f today) (stateOf today rows places opens reserves helds) (length log - at) (entriesFrom journal i (count - i)))
 
-  pub going-first : Going log₀ opens₀ reserves₀ helds₀ day₀ rows₀ 0 0
-  going-first =
+  pub going-first : Pictured S (stateOf day₀ rows₀ places opens₀ reserves₀ helds₀) → Going log₀ opens₀ reserves₀ helds₀ day₀ rows₀ 0 0
+  going-first p =
       let n : length log₀ ≡ length log₀ - 0 = omega arith in
       let m : count ≡ count - 0 = omega arith in
       let r = ap₂ (λ (k c : ℕ). deskRun S (stateOf day₀ rows₀ places opens₀ reserves₀ helds₀) k (entriesFrom journal 0 c)) n m in
@@ -91,6 +93,7 @@ module _ (f : List ℕ) (day₀ : Day) (rows₀ : List Booking) (places : ℕ) (
         placed = omega arith;
         rest = refl;
         fixed = refl;
+        pictured = p;
         run = same ∙ ap (afterRun 0 []) r;
       }
 
@@ -179,6 +182,9 @@ module _ (f : List ℕ) (day₀ : Day) (rows₀ : List Booking) (places : ℕ) (
             placed = omega (arith, w .place);
             rest = wrote-back log at ws log′ (r .next) fit w ∙ back;
             fixed = same ∙ g .fixed;
+            pictured =
+                subst (λ (U : Setting). Pictured U (stateOf (r .day) (r .rows) places opens′ reserves′ helds′)) (sym same)
+                (subst (Pictured T) (sym (k .state)) (pictured-next T d (g .pictured) (entryAt journal i)));
             run =
                 next-run
                 ∙ ap (afterRun i (take at log)) (run-more T d (length log - at) (entryAt journal i) es (k .fit))

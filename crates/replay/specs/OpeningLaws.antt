@@ -27,6 +27,7 @@ use Rattle.replay.specs.Journal.{entries}
 use Rattle.replay.specs.Contract.{noDay, lentTo, Result, Replays, resultAfter, resultBy, result}
 use Rattle.replay.specs.DeskRun.{deskRun, runResult}
 use Rattle.replay.specs.RunLaws.{run-result}
+use Rattle.replay.specs.Pictured.{Pictured, pictured-first}
 use Rattle.replay.specs.declared.Replayed.{Replayed}
 
 module _ (f : List ℕ) (T D M : ℕ) (rows : List Booking) (places : ℕ) (opens reserves helds : List ℕ) (o : Opened) (opens′ reserves′ helds′ : List ℕ) where
@@ -72,16 +73,23 @@ module _ (f : List ℕ) (T D M : ℕ) (rows : List Booking) (places : ℕ) (open
       opened-day : o .day ≡ dayOf S (expected S lent atFirst 0)
       opened-day = is .day ∙ ap (openedDay S lent noDay) (number-is ∙ none) ∙ ap (dayOf S) (opened-expected S lent call-opened)
 
-      pub opened-setting : settingAt f (o .day) ≡ S
+      opened-setting : settingAt f (o .day) ≡ S
       opened-setting = ap (settingAt f) opened-day
 
-      pub opened-state : stateOf (o .day) rows places opens′ reserves′ helds′ ≡ expected S lent atFirst 0
+      opened-state : stateOf (o .day) rows places opens′ reserves′ helds′ ≡ expected S lent atFirst 0
       opened-state =
           let e = opened-expected S lent call-opened in
           same-state (ap (λ (x : Day). x .now) opened-day) (ap (λ (x : Day). x .count) opened-day) refl refl
           (is .opens ∙ ap (λ (t : State). t .opens) e)
           (is .reserves ∙ ap (λ (t : State). t .reserves) e)
           (is .helds ∙ ap (λ (t : State). t .helds) e)
+
+      -- the run finds the plain day's first picture
+      pub opened-pictured : min places maxBookings ≤ length rows → Pictured (settingAt f (o .day)) (stateOf (o .day) rows places opens′ reserves′ helds′)
+      opened-pictured room =
+          let a = opened-accepted S lent loss-rising room call-opened in
+          subst (λ (U : Setting). Pictured U (stateOf (o .day) rows places opens′ reserves′ helds′)) (sym opened-setting)
+          (pictured-first S lent (stateOf (o .day) rows places opens′ reserves′ helds′) a opened-state)
 
       pub opened-replays : min places maxBookings ≤ length rows → (fits : (bs : List Booking) → Dec (Fits S bs)) (journal log : List ℕ)
           (r : Replayed) (log″ opens″ reserves″ helds″ : List ℕ)

@@ -28,16 +28,9 @@ use Rattle.playing.specs.Contract.{linesIn}
 use Rattle.replay.specs.Log.{loggedWords}
 use Rattle.replay.specs.PlainRun.{callsOf, plainEntry, entryLog, plainLog, entriesDone}
 use Rattle.replay.specs.Contract.{Result, resultAfter}
-use Rattle.replay.specs.DeskRun.{DeskRun, outcomeWords, afterRun, noRun, carried, deskRun, runResult}
+use Rattle.replay.specs.DeskRun.{DeskRun, blankReport, outcomeWords, afterRun, noRun, carried, deskRun, runResult}
 use Rattle.replay.specs.declared.journal.Entry.{Entry}
 use Rattle.replay.specs.declared.journal.Entry.the-variants.{Book, Drop, Play, Unknown}
-
--- the report that an entry's call is lent
-abbrev blankReport : Entry → List Line
-blankReport (Book q) = []
-blankReport (Drop name) = []
-blankReport (Play room) = replicate room noLine
-blankReport Unknown = []
 
 module _ (S : Setting) (lent : State) (fits : (bs : List Booking) → Dec (Fits S bs)) (accepted : Accepted S lent) where
   -- ---- one entry
@@ -49,7 +42,7 @@ module _ (S : Setting) (lent : State) (fits : (bs : List Booking) → Dec (Fits 
       let x : max m (length (s .standing)) ≡ m = omega (arith, g .most) in
       record { answer = refl; report = refl; state = ap (expected S lent s) (sym x); good = rw x g }
 
-  entry-step : (s : PlainDay) (m : ℕ) → Good S lent fits accepted s m → (e : Entry)
+  pub entry-step : (s : PlainDay) (m : ℕ) → Good S lent fits accepted s m → (e : Entry)
       → Matches S lent fits accepted (carried S (expected S lent s m) e) (plainEntry S (lent .places) fits s e) (blankReport e) m
   entry-step s m g (Book q) = step S lent fits accepted s m g (Calls.booking q)
   entry-step s m g (Drop name) = step S lent fits accepted s m g (Calls.dropping name)

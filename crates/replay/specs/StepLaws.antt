@@ -6,13 +6,13 @@ use Prim.Native.Nat.{ℕ, zero, suc, _+_, _-_, _*_, _/_, _≤_, _<_}
 use native.Mathlib.Omega.{arith}
 use lib.ListN.{length, take, drop, replicate, length-append, length-replicate}
 use lib.Seq.{take-append-seam}
+use lib.Dec.{eqb}
+use borrow.Author.Tests.{ne-eqb}
 use Rattle.laws.specs.Questions.{refusal}
 use Rattle.limits.specs.Bounds.{maxBookings}
-use Rattle.limits.specs.Refusals.{commandForm}
 use Rattle.model.specs.Day.{Setting, State}
 use Rattle.model.specs.Fit.{Found, nowhere, at}
-use Rattle.model.specs.Report.{linesOf}
-use Rattle.model.specs.Calls.{Outcome, standing, bookQuestions, startOf, bookWith, bookCall, dropQuestions, dropWith, dropCall, playQuestions, playWith, playCall}
+use Rattle.model.specs.Calls.{Outcome, refused, standing, bookQuestions, startOf, bookWith, bookCall, dropQuestions, dropWith, dropCall, playQuestions, playWith, playCall}
 use Rattle.model.specs.Code.{stateOf, dayOf}
 use Rattle.model.specs.PlacesLaws.{same-state}
 use Rattle.model.specs.declared.Booking.{Booking}
@@ -30,7 +30,7 @@ use Rattle.playing.specs.Contract.{linesIn, linesFor, Plays}
 use Rattle.playing.specs.declared.Played as Play
 use Rattle.replay.specs.Log.{answerWords, linesWords, loggedWords, Wrote}
 use Rattle.replay.specs.Writing.{wrote-then, lines-length, lines-size}
-use Rattle.replay.specs.DeskRun.{outcomeWords, carried, Took, Kept, Steps}
+use Rattle.replay.specs.DeskRun.{blankReport, refusalOf, outcomeWords, carried, Took, Kept, Steps, Refuses}
 use Rattle.replay.specs.declared.journal.Entry.{Entry}
 use Rattle.replay.specs.declared.journal.Entry.the-variants as E
 use Rattle.replay.specs.declared.step.Stepped.{Stepped}
@@ -128,11 +128,49 @@ module _ (S : Setting) (d : State) where
       called-steps S d (E.Drop name) old p r log′ o v h (x .answer) room (drop-words name n) (drop-places name n) (b .answer) t (y ∙ b .day) (z ∙ b .rows)
       (b .opens) (b .reserves) (b .helds) w
 
-  -- no call
-  pub unknown-steps : (old : List ℕ) (p : ℕ) (r : Stepped) (log′ : List ℕ) → p + 3 ≤ length old → r .done ≡ true → r .day ≡ dayOf S d → r .rows ≡ d .records
-      → Wrote old p (answerWords (Refused commandForm)) log′ (r .next) → Steps S d E.Unknown old p r log′ (d .opens) (d .reserves) (d .helds)
-  unknown-steps old p r log′ room t y z w =
-      called-steps S d E.Unknown old p r log′ (d .opens) (d .reserves) (d .helds) (Refused commandForm) room refl refl refl t y z refl refl refl w
+-- ---- an entry that is refused before its call
+
+module _ (S : Setting) (d : State) (k : ℕ) (refuses : S .verdict ≡ suc k) where
+  some : eqb (S .verdict) 0 ≡ false
+  some = ne-eqb (S .verdict) 0 (λ z. omega arith)
+
+  book-file : (q : Request) → refusal (bookQuestions S d q) ≡ suc k
+  unfolding bookQuestions
+  book-file q = rw some refuses
+
+  drop-file : (name : ℕ) → refusal (dropQuestions S d name) ≡ suc k
+  unfolding dropQuestions
+  drop-file name = rw some refuses
+
+  play-file : (room : ℕ) → refusal (playQuestions S d room) ≡ suc k
+  unfolding playQuestions
+  play-file room = rw some refuses
+
+  file-carried : (e : Entry) → carried S d e ≡ refused S d (blankReport e) (refusalOf (suc k) e)
+  unfolding bookCall dropCall playCall
+  file-carried (E.Book q) = ap (λ (n : ℕ). bookWith S d q n (startOf S d q)) (book-file q)
+  file-carried (E.Drop name) = ap (dropWith S d name) (drop-file name)
+  file-carried (E.Play room) = ap (playWith S d (replicate room noLine)) (play-file (length (replicate room noLine)))
+  file-carried E.Unknown = refl
+
+pub refused-steps : (S : Setting) (d : State) (e : Entry) (n : ℕ) (report : List Line) → carried S d e ≡ refused S d report n
+    → (old : List ℕ) (p : ℕ) (r : Stepped) (log′ : List ℕ) → p + 3 ≤ length old → Refuses n (dayOf S d) (d .records) old p r log′
+    → Steps S d e old p r log′ (d .opens) (d .reserves) (d .helds)
+refused-steps S d e n report is old p r log′ room w =
+    let same : carried S d e .state ≡ d = ap (λ (o : Outcome). o .state) is in
+    called-steps S d e old p r log′ (d .opens) (d .reserves) (d .helds) (Refused n) room
+    (ap outcomeWords is ∙ sym (ap (λ (o : Outcome). answerWords (o .answer)) is))
+    (ap (λ (t : State). t .places) same) (sym (ap (λ (o : Outcome). o .answer) is)) (w .done) (w .day ∙ ap (dayOf S) (sym same))
+    (w .rows ∙ ap (λ (t : State). t .records) (sym same)) (ap (λ (t : State). t .opens) (sym same)) (ap (λ (t : State). t .reserves) (sym same))
+    (ap (λ (t : State). t .helds) (sym same)) (w .wrote)
+
+-- with the number of the film file
+pub file-steps : (S : Setting) (d : State) (e : Entry) (v n : ℕ) → S .verdict ≡ v → (v ≡ 0 → ⊥) → n ≡ refusalOf v e
+    → (old : List ℕ) (p : ℕ) (r : Stepped) (log′ : List ℕ) → p + 3 ≤ length old → Refuses n (dayOf S d) (d .records) old p r log′
+    → Steps S d e old p r log′ (d .opens) (d .reserves) (d .helds)
+file-steps S d e zero n is some m old p r log′ room w = absurd (some refl)
+file-steps S d e (suc k) n is some m old p r log′ room w =
+    refused-steps S d e n (blankReport e) (file-carried S d k is e ∙ ap (refused S d (blankReport e)) (sym m)) old p r log′ room w
 
 -- ---- a played round
 

@@ -3,6 +3,8 @@ pub mod journal;
 pub mod log;
 pub mod step;
 
+use films::catalogue::catalogue;
+use films::types::Catalogue;
 use journal::ENTRY_WORDS;
 use journal::entry_at;
 use limits::bounds::MAX_BOOKINGS;
@@ -14,6 +16,7 @@ use step::step;
 ghost use mathlib.Core.Path.{_≡_};
 ghost use mathlib.Core.List.{List};
 ghost use lib.ListN.{length};
+ghost use Rattle.films.specs.Catalogue.{catalogueOf};
 ghost use Rattle.model.specs.Answers.{numberOf};
 ghost use Rattle.model.specs.Code.{stateOf};
 ghost use Rattle.model.specs.Fit.{Fits};
@@ -23,6 +26,7 @@ ghost use Rattle.questions.specs.Given.{settingAt};
 ghost use Rattle.replay.specs.Journal.{entries};
 ghost use Rattle.replay.specs.Contract.{lentTo, result, Replays};
 ghost use Rattle.replay.specs.DeskRun.{deskRun, runResult};
+ghost use Rattle.replay.specs.Pictured.{Pictured};
 
 // What a replay gives: the opening's refusal or 0, how many entries were done, how many words of the log were written, the day and
 // the list's first 256 places.
@@ -47,9 +51,11 @@ fn number_of(answer: Answer) -> u32
     }
 }
 
-// Carries the journal's entries out in order, from the day on, until one's words do not fit in what is left of the log.
+// Carries the journal's entries out in order, from an opened day on, until one's words do not fit in what is left of the log. The
+// file's catalogue is c.
 fn run(
     file: &[u8],
+    c: Catalogue,
     day: Day,
     rows: [Booking; MAX_BOOKINGS],
     places: u64,
@@ -59,6 +65,7 @@ fn run(
     reserves: &mut [u64],
     helds: &mut [u64],
 ) -> Replayed
+    requires { ⌜ (c ≡ catalogueOf (now file)) × Pictured (settingAt (now file) day) (stateOf day rows places (now opens) (now reserves) (now helds)) ⌝ }
     ensures { λ r. ⌜ Replays (runResult (settingAt (now (file .entry)) day) (deskRun (settingAt (now (file .entry)) day) (stateOf day rows places (now (opens .entry)) (now (reserves .entry)) (now (helds .entry))) (length (now (log .entry))) (entries (now (journal .entry))))) (now (log .entry)) r (now (log .exit)) (now (opens .exit)) (now (reserves .exit)) (now (helds .exit)) ⌝ }
 {
     let count = journal.len() / ENTRY_WORDS;
@@ -70,6 +77,7 @@ fn run(
         let entry = entry_at(journal, i);
         let stepped = step(
             file,
+            c,
             today,
             list,
             places,
@@ -143,8 +151,10 @@ pub fn replay(
             rows,
         };
     }
+    let c = catalogue(file);
     run(
         file,
+        c,
         day,
         rows,
         places,

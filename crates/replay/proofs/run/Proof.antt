@@ -1,31 +1,43 @@
 -- `run` meets its contract. The loop's invariant: the whole run is that of the entries done, whose words stand in the log, and of
--- the entries that follow. The measure is the entries that follow. Assumes nothing.
+-- the entries that follow, and the day is the plain day's picture. The measure is the entries that follow. Assumes nothing.
 use Prim.Native.Nat.{_-_}
 use native.Mathlib.Omega.{arith}
 use borrow.Author.Needs.{needs}
 use borrow.Author.Tests.{not-true, not-false}
+use Rattle.model.specs.Code.{stateOf}
+use Rattle.questions.specs.Given.{settingAt}
+use Rattle.replay.specs.Pictured.{pictured-between}
 use Rattle.replay.specs.LoopLaws.{Going, going-first, going-next, going-full, going-end}
 use Rattle.replay.proofs.run.Statement.{statement}
 use Rattle.replay.proofs.run.Tie as tie
 
 abbrev Inv-loop : tie.InvT-loop
-Inv-loop file places journal log₀ opens₀ reserves₀ helds₀ count today₀ list₀ at₀ i₀ log opens reserves helds today list at i =
+Inv-loop file c places journal log₀ opens₀ reserves₀ helds₀ count today₀ list₀ at₀ i₀ log opens reserves helds today list at i =
     Going file today₀ list₀ places journal log₀ opens₀ reserves₀ helds₀ count log opens reserves helds today list at i
 
 abbrev μ-loop : tie.MeasureT-loop
-μ-loop file places journal log₀ opens₀ reserves₀ helds₀ count today₀ list₀ at₀ i₀ log opens reserves helds today list at i =
+μ-loop file c places journal log₀ opens₀ reserves₀ helds₀ count today₀ list₀ at₀ i₀ log opens reserves helds today list at i =
     count - i
 
 loop-holds : tie.Need-loop-holds Inv-loop μ-loop
 loop-holds c =
-    let a = c .before .before .before .before .before .before .args in
-    going-first (a .file .now) (a .day) (a .rows) (a .places) (a .journal .now) (a .log .now) (a .opens .now) (a .reserves .now) (a .helds .now) _
+    let start = c .before .before .before .before .before .before in
+    let a = start .args in
+    going-first (a .file .now) (a .day) (a .rows) (a .places) (a .journal .now) (a .log .now) (a .opens .now) (a .reserves .now) (a .helds .now) _ (start .pre .1)
 
 entry-at-requires : tie.Need-entry-at-requires Inv-loop μ-loop
 entry-at-requires c κs = search needs
 
 step-requires : tie.Need-step-requires Inv-loop μ-loop
-step-requires c κs = search needs
+step-requires c κs =
+    let turn = c .before .before .before .before .before in
+    let l = turn .before .loop in
+    let start = turn .before .before .before .before .before .before .before .before in
+    let a = start .args in (
+      l .inv .placed,
+      start .pre .0,
+      pictured-between (settingAt (a .file .now) (l .today)) (stateOf (l .today) (l .list) (a .places) (l .opens) (l .reserves) (l .helds)) (l .inv .pictured),
+    )
 
 same-length : tie.Need-same-length Inv-loop μ-loop
 same-length c = search needs
@@ -47,7 +59,7 @@ returns c =
     let start = turn .before .before .before .before .before .before .before .before in
     let a = start .args in
     let s = rw (called .before .before .before .before .before .entry-at .ensures) at (called .step .ensures) in
-    let last = called .step .last .1 .1 .1 .1 .1 in
+    let last = called .step .last .1 .1 .1 .1 .1 .1 in
     going-full (a .file .now) (a .day) (a .rows) (a .places) (a .journal .now) (a .log .now) (a .opens .now) (a .reserves .now) (a .helds .now) _
     (l .log) (l .opens) (l .reserves) (l .helds) (l .today) (l .list) (l .at) (l .i) (l .inv)
     (turn .loop-test .taken) (called .step .result) (last .0) (last .1 .1 .0) (last .1 .1 .1 .0) (last .1 .1 .1 .1 .0) (s .kept (not-true _ (c .if1 .taken)))
@@ -69,8 +81,8 @@ loop-again c =
     let start = turn .before .before .before .before .before .before .before .before in
     let a = start .args in
     let s = rw (called .before .before .before .before .before .entry-at .ensures) at (called .step .ensures) in
-    let last = called .step .last .1 .1 .1 .1 .1 in
-    let kept = called .step .kept .1 .1 .1 .1 .1 .1 .1 in
+    let last = called .step .last .1 .1 .1 .1 .1 .1 in
+    let kept = called .step .kept .1 .1 .1 .1 .1 .1 .1 .1 in
     going-next (a .file .now) (a .day) (a .rows) (a .places) (a .journal .now) (a .log .now) (a .opens .now) (a .reserves .now) (a .helds .now) _
     (l .log) (l .opens) (l .reserves) (l .helds) (l .today) (l .list) (l .at) (l .i) (l .inv)
     (turn .loop-test .taken) (called .step .result) (last .0) (last .1 .1 .0) (last .1 .1 .1 .0) (last .1 .1 .1 .1 .0) (s .took (not-false _ (c .before .before .if1 .left)))

@@ -11,8 +11,8 @@ use Rattle.replay.specs.StepLaws.{answer-length, lines-there, play-full,
 use Rattle.replay.proofs.step.step_play.Statement.{statement}
 use Rattle.replay.proofs.step.step_play.Tie as tie
 
-play-requires : tie.Need-play-requires
-play-requires c κs = search needs
+play-standing-requires : tie.Need-play-standing-requires
+play-standing-requires c κs = search needs
 
 line-count-requires : tie.Need-line-count-requires
 line-count-requires c κs = search needs
@@ -29,9 +29,9 @@ returns c opens reserves helds =
     let called = counted .before in
     let start = called .before .before .before in
     let a = start .args in
-    let less : (length (a .log .now) - a .at - 3) / 4 < linesIn (called .play .result .answer) = omega (arith, c .if1 .taken, counted .line-count .ensures) in
-    play-full (a .file .now) (a .day) (a .rows) (a .places) (a .room) (called .play .result) (called .play .ensures) opens reserves helds (a .log .now) (a .at)
-    (start .pre) _ (a .log .now) less refl refl refl refl refl
+    let less : (length (a .log .now) - a .at - 3) / 4 < linesIn (called .play-standing .result .answer) = omega (arith, c .if1 .taken, counted .line-count .ensures) in
+    play-full (a .file .now) (a .day) (a .rows) (a .places) (a .room) (called .play-standing .result) (called .play-standing .ensures) opens reserves helds (a .log .now) (a .at)
+    (start .pre .0) _ (a .log .now) less refl refl refl refl refl
 
 write-answer-requires : tie.Need-write-answer-requires
 write-answer-requires c κs = search needs
@@ -44,12 +44,12 @@ write-lines-requires c κs =
     let called = counted .before in
     let start = called .before .before .before in
     let a = start .args in
-    let there = lines-there (a .file .now) (a .day) (a .rows) (a .places) (a .room) (called .play .result) (called .play .ensures) in
-    let three = answer-length (called .play .result .answer) in
-    let size = wrote-length (a .log .now) (a .at) (answerWords (called .play .result .answer)) (wrote .write-answer .last .0) (wrote .write-answer .result)
-    (omega (arith, start .pre)) (wrote .write-answer .ensures) in (
+    let there = lines-there (a .file .now) (a .day) (a .rows) (a .places) (a .room) (called .play-standing .result) (called .play-standing .ensures) in
+    let three = answer-length (called .play-standing .result .answer) in
+    let size = wrote-length (a .log .now) (a .at) (answerWords (called .play-standing .result .answer)) (wrote .write-answer .last .0) (wrote .write-answer .result)
+    (omega (arith, start .pre .0)) (wrote .write-answer .ensures) in (
       omega (arith, there, counted .line-count .ensures),
-      omega (arith, size, start .pre, test .if1 .left, wrote .write-answer .ensures .place),
+      omega (arith, size, start .pre .0, test .if1 .left, wrote .write-answer .ensures .place),
     )
 
 same-length : tie.Need-same-length
@@ -65,15 +65,15 @@ returns-2 c opens reserves helds =
     let start = called .before .before .before in
     let a = start .args in
     let count = counted .line-count .ensures in
-    play-done (a .file .now) (a .day) (a .rows) (a .places) (a .room) (called .play .result) (called .play .ensures) opens reserves helds (a .log .now) (a .at)
-    (start .pre) _ (lined .write-lines .last .0) (omega (arith, test .if1 .left)) refl refl refl (wrote .write-answer .last .0) (wrote .write-answer .result)
+    play-done (a .file .now) (a .day) (a .rows) (a .places) (a .room) (called .play-standing .result) (called .play-standing .ensures) opens reserves helds (a .log .now) (a .at)
+    (start .pre .0) _ (lined .write-lines .last .0) (omega (arith, test .if1 .left)) refl refl refl (wrote .write-answer .last .0) (wrote .write-answer .result)
     (wrote .write-answer .ensures) (rw (← count) (lined .write-lines .ensures))
 
 pub step-play-spec : {M : Type 1} → statement M
 step-play-spec =
     tie.close
     (tie.spec
-    play-requires
+    play-standing-requires
     line-count-requires
     sub-fitting
     sub-fitting-2
