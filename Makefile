@@ -7,17 +7,18 @@ HALL := target/bin/hall
 test:
 	@.ci/run
 
-$(HALL):
+# built anew when a source of hall, or of a crate on its line, is newer
+$(HALL): $(foreach crate,hall $(shell sed -n 's/^hall://p' crates.txt),$(wildcard crates/$(crate)/src/*.rt)) | target
 	@rt check hall > target/hall.log 2>&1 || { cat target/hall.log; exit 1; }
 
-demo: | target $(HALL)
+demo: $(HALL)
 	@rm -rf target/demo && mkdir -p target/demo && cp crates/hall/data/films.bin target/demo/
 	@while IFS= read -r line; do echo "$$line" >> target/demo/input; echo "> $$line"; \
 		before=$$(cat target/demo/output 2>/dev/null | wc -l); \
 		(cd target/demo && ../bin/hall < input > output); \
 		tail -n +$$((before + 1)) target/demo/output; done < crates/hall/stdin
 
-run: | target $(HALL)
+run: $(HALL)
 	@rm -rf target/run && mkdir -p target/run && cp "$(FILMS)" target/run/films.bin && cd target/run && ../bin/hall
 
 target:
@@ -59,3 +60,27 @@ CALLS ?= 10000
 SEED ?=
 differential: $(ARCHIVE)
 	@cd differential && $(CARGO) run -q --release -- $(CALLS) $(SEED)
+
+# ---- Measured
+
+.PHONY: bench study picture
+MEASURE := $(CURDIR)/target/cargo/release
+BUILD_BENCH = @cd bench && $(CARGO) build -q --release
+
+# make bench: times beside two versions in Rust, growth, stack, instructions; under ten minutes. make study: the papers' comparison.
+# With WRITE=1 their tables go into docs/BENCHMARKS.md and their pictures into docs/pictures. PARTS="files days .." takes some parts.
+bench: $(ARCHIVE) $(HALL)
+	$(BUILD_BENCH)
+	@$(MEASURE)/bench $(if $(WRITE),--write docs/BENCHMARKS.md docs/pictures) --hall $(HALL) $(PARTS)
+
+study: $(ARCHIVE)
+	$(BUILD_BENCH)
+	@$(MEASURE)/study $(if $(WRITE),--write docs/BENCHMARKS.md docs/pictures/study.svg)
+
+# make picture: the example day of bench/day as docs/pictures/day.svg. One's own: DAY=folder OUT=picture.svg, the folder with films.bin
+# and commands; or, for a journal, JOURNAL=file LIMITS="rounds disk memory" as well.
+DAY ?= bench/day
+OUT ?= docs/pictures/day.svg
+picture: $(ARCHIVE)
+	$(BUILD_BENCH)
+	@$(MEASURE)/picture $(if $(JOURNAL),journal $(DAY)/films.bin $(JOURNAL) $(LIMITS),session $(DAY)/films.bin $(DAY)/commands) $(OUT)

@@ -1,0 +1,142 @@
+//! The single cases: largest file, schedules, least reserves, searches, replays.
+
+use super::contest::{Call, State};
+use crate::days::{
+    day, films, refused_all_day, refused_by_memory, Fixture, Refuser, Size, Spikes, PREFETCH,
+};
+use crate::scheduler::Sheet;
+use playback::journal;
+use playback::limits::{MAX_BOOKINGS, MAX_MEMORY};
+use playback::{Booking, Day, Request};
+use reference::film_file::encode;
+
+/// A case with its name in the tables.
+pub struct Case {
+    pub name: String,
+    pub call: Call,
+    pub state: State,
+}
+
+fn case(name: &str, call: Call, state: State) -> Case {
+    Case {
+        name: name.to_string(),
+        call,
+        state,
+    }
+}
+
+/// A film file alone.
+fn of_file(file: Vec<u8>) -> State {
+    State::new(Fixture {
+        file,
+        day: Day::default(),
+        records: vec![Booking::default(); MAX_BOOKINGS],
+        sheet: Sheet::new(0),
+        request: Request {
+            prefetch: PREFETCH,
+            ..Request::default()
+        },
+    })
+}
+
+/// Verdict, schedule and least reserve.
+pub fn file_cases() -> Vec<Case> {
+    let all = films(64, 4_096);
+    let largest = of_file(encode(&all));
+    let single = of_file(encode(&all[..1]));
+    let film = 1;
+    let reserve = 300_000;
+    let narrow = Call::LeastReserve {
+        film,
+        cap: 2_000_000,
+    };
+    let wide = Call::LeastReserve {
+        film,
+        cap: MAX_MEMORY,
+    };
+    vec![
+        case(
+            "verdict, largest file (1 MiB)",
+            Call::Verdict,
+            largest.clone(),
+        ),
+        case("verdict, one film (16 KiB)", Call::Verdict, single.clone()),
+        case(
+            "schedule, 4,096 rounds, largest file",
+            Call::Schedule { film, reserve },
+            largest.clone(),
+        ),
+        case(
+            "schedule, 4,096 rounds, one film",
+            Call::Schedule { film, reserve },
+            single.clone(),
+        ),
+        case(
+            "least reserve, cap 2,000,000, largest file",
+            narrow,
+            largest.clone(),
+        ),
+        case(
+            "least reserve, cap 2,000,000, one film",
+            narrow,
+            single.clone(),
+        ),
+        case("least reserve, largest cap, one film", wide, single),
+    ]
+}
+
+/// Searches of a window of the whole day, all refused.
+pub fn search_cases() -> Vec<Case> {
+    let refused = |name, by| case(name, Call::Book, State::new(refused_all_day(by)));
+    let memory = |name, spikes| case(name, Call::Book, State::new(refused_by_memory(spikes)));
+    vec![
+        refused("full day, disk refuses every start", Refuser::Disk),
+        refused("full day, cabs refuse every start", Refuser::Cabs),
+        refused("full day, memory refuses every start", Refuser::Memory),
+        memory("memory refuses alternately, late in the film", Spikes::Late),
+        memory(
+            "memory refuses alternately, early in the film",
+            Spikes::Early,
+        ),
+    ]
+}
+
+/// The journal of a day: its bookings, one of them dropped and booked again, then every round played.
+fn journal_of(fixture: &Fixture) -> Vec<u64> {
+    let standing = &fixture.records[..fixture.day.count as usize];
+    let book = |record: &Booking| {
+        journal::Call::Book(Request {
+            name: record.name,
+            film: record.film.into(),
+            prefetch: record.prefetch.into(),
+            reserve: record.reserve.into(),
+            cabs: record.cabs,
+            first: record.start.into(),
+            last: record.start.into(),
+        })
+    };
+    let mut calls: Vec<journal::Call> = standing.iter().map(book).collect();
+    calls.push(journal::Call::Drop(standing[0].name));
+    calls.push(book(&standing[0]));
+    let rounds = fixture.day.rounds as usize;
+    calls.extend(std::iter::repeat_n(journal::Call::Play(256), rounds));
+    calls.iter().flat_map(|call| call.words()).collect()
+}
+
+/// A replay of a day of that size from its opening to its last round.
+pub fn replay_case(size: Size) -> Case {
+    let mut fixture = day(size);
+    fixture.day.now = 0;
+    let mut state = State::new(fixture);
+    state.journal = journal_of(&state.fixture);
+    let entries = state.journal.len() / journal::ENTRY;
+    let lines = size.bookings as usize * (size.film + PREFETCH) as usize;
+    state.log = vec![0; journal::ANSWER * entries + journal::LINE * lines];
+    let name = format!(
+        "{} rounds, {} bookings of {} rounds",
+        crate::document::grouped(size.rounds),
+        size.bookings,
+        crate::document::grouped(size.film)
+    );
+    case(&name, Call::Replay, state)
+}

@@ -1,0 +1,133 @@
+//! Lines per second of the program `hall`, beside the same console over the fast version.
+
+use crate::days::{films, PREFETCH};
+use crate::document::{grouped, table};
+use crate::fast::Fast;
+use crate::measure::{children_time, measure, ratio, Effort};
+use crate::scheduler::Scheduler;
+use reference::cases::random::Random;
+use reference::film_file::encode;
+use std::fmt::Write as _;
+use std::fs::{self, File};
+use std::path::{Path, PathBuf};
+use std::process::{Command, Stdio};
+use std::time::Duration;
+
+/// Rounds of the films: 15 of them are just under the program's 65,536 bytes.
+const FILM: usize = 1_000;
+const FILMS: usize = 15;
+
+/// An input of the program.
+struct Input {
+    name: &'static str,
+    text: String,
+}
+
+fn inputs(file: &[u8]) -> Vec<Input> {
+    let mut random = Random::new(31);
+    let reserve = Fast.least_reserve(file, 1, PREFETCH, 1 << 40).bytes;
+    let short = |random: &mut Random, name: u64| {
+        let cab = random.below(64);
+        format!("BOOK {name} 1 {PREFETCH} {reserve} {} 0 4\n", 1_u64 << cab)
+    };
+    let mut bookings = String::new();
+    for turn in 0..40 {
+        let _ = writeln!(bookings, "OPEN 1024 4294967295 1099511627776");
+        for name in 0..64 {
+            bookings += &short(&mut random, turn * 100 + name);
+        }
+        for name in 0..64 {
+            let _ = writeln!(bookings, "DROP {}", turn * 100 + name);
+        }
+    }
+    let mut rounds = String::new();
+    for _ in 0..4 {
+        let _ = writeln!(rounds, "OPEN 1024 4294967295 1099511627776");
+        for name in 0..32 {
+            let _ = writeln!(
+                rounds,
+                "BOOK {name} {} {PREFETCH} {reserve} {} 0 4",
+                1,
+                1_u64 << name
+            );
+        }
+        rounds += &"PLAY\n".repeat(1_024);
+    }
+    let mut refused = String::new();
+    for number in 0..200_000 {
+        let _ = writeln!(refused, "LATER {number}");
+    }
+    vec![
+        Input {
+            name: "32 films open, rounds played",
+            text: rounds,
+        },
+        Input {
+            name: "bookings and drops, up to 64 standing",
+            text: bookings,
+        },
+        Input {
+            name: "lines that are no command",
+            text: refused,
+        },
+    ]
+}
+
+/// Runs a program on an input; its output goes to a file.
+fn run(program: &Path, folder: &Path, input: &Path, output: &Path) {
+    let status = Command::new(program)
+        .current_dir(folder)
+        .stdin(Stdio::from(File::open(input).expect("the input is there")))
+        .stdout(Stdio::from(File::create(output).expect("a file is made")))
+        .status()
+        .expect("the program runs");
+    assert!(status.success());
+}
+
+/// The table, with the program `hall` and the console over the fast version at these paths.
+pub fn console(hall: &Path, fast_hall: &Path, folder: &Path) -> String {
+    fs::create_dir_all(folder).expect("the folder is made");
+    let file = encode(&films(FILMS, FILM));
+    fs::write(folder.join("films.bin"), &file).expect("the films are written");
+    let mut rows = Vec::new();
+    for input in inputs(&file) {
+        eprintln!("bench: console, {}", input.name);
+        let path = folder.join("input");
+        fs::write(&path, &input.text).expect("the input is written");
+        let outputs: [PathBuf; 2] = ["library", "fast"].map(|name| folder.join(name));
+        run(hall, folder, &path, &outputs[0]);
+        run(fast_hall, folder, &path, &outputs[1]);
+        let [one, other] = outputs
+            .each_ref()
+            .map(|path| fs::read(path).expect("an output"));
+        assert!(one == other, "{}: the outputs differ", input.name);
+        let lines = input.text.lines().count() as f64;
+        let effort = Effort {
+            runs: 5,
+            time: Duration::from_secs(2),
+            run: Duration::from_micros(1),
+        };
+        let mut library = || run(hall, folder, &path, &outputs[0]);
+        let mut fast = || run(fast_hall, folder, &path, &outputs[1]);
+        let times = measure(children_time, effort, &mut [&mut library, &mut fast]);
+        rows.push(vec![
+            input.name.to_string(),
+            grouped(lines as u64),
+            grouped((lines / times[0].median()) as u64),
+            format!("{:.1} %", times[0].spread()),
+            grouped((lines / times[1].median()) as u64),
+            format!("{:.2}", ratio(&times[0], &times[1])),
+        ]);
+    }
+    table(
+        &[
+            "input",
+            "lines",
+            "hall, lines/s",
+            "±",
+            "fast console, lines/s",
+            "time, hall / fast",
+        ],
+        &rows,
+    )
+}

@@ -1,0 +1,166 @@
+//! Tables of times.
+
+use super::cases::Case;
+use super::contest::{contest, Call, Contest, Slow, State};
+use crate::days::{day, Size};
+use crate::document::{grouped, table};
+use crate::measure::{seconds, Effort};
+
+/// Ratios that a run found, to be summed up.
+#[derive(Default)]
+pub struct Ratios(pub Vec<(String, f64)>);
+
+impl Ratios {
+    fn put(&mut self, name: &str, contest: &Contest) {
+        self.0.push((name.to_string(), contest.ratio()));
+    }
+
+    /// How many are at most 1.0 and at most 1.2, and the largest.
+    pub fn summary(&self) -> String {
+        let at_most = |bound: f64| self.0.iter().filter(|(_, ratio)| *ratio <= bound).count();
+        let largest = self.0.iter().max_by(|one, other| one.1.total_cmp(&other.1));
+        let largest = largest.map_or(String::new(), |(name, ratio)| {
+            format!("; the largest is {ratio:.2} ({name})")
+        });
+        format!(
+            "Of {} cases the library takes at most the fast version's time in {}, at most 1.2 times it in {}{largest}.\n",
+            self.0.len(),
+            at_most(1.0),
+            at_most(1.2),
+        )
+    }
+}
+
+/// A row for each case.
+pub fn cases_table(cases: &[Case], effort: Effort, ratios: &mut Ratios) -> String {
+    let mut rows = Vec::new();
+    for case in cases {
+        eprintln!("bench: {}", case.name);
+        let contest = contest(case.call, &case.state, effort, true);
+        ratios.put(&case.name, &contest);
+        let library = contest.library.median();
+        let (slow, ahead) = match contest.slow {
+            Slow::NotTried => (String::new(), String::new()),
+            Slow::Takes(time) => (seconds(time), format!("{:.0}", time / library)),
+            Slow::Over(time) if time < library => {
+                (format!("over {}", seconds(time)), "–".to_string())
+            }
+            Slow::Over(time) => (
+                format!("over {}", seconds(time)),
+                format!("over {:.0}", time / library),
+            ),
+        };
+        rows.push(vec![
+            case.name.clone(),
+            seconds(library),
+            match contest.library.runs() {
+                1 => "one run".to_string(),
+                _ => format!("{:.1} %", contest.library.spread()),
+            },
+            seconds(contest.fast.median()),
+            format!("{:.1} %", contest.fast.spread()),
+            format!("{:.2}", contest.ratio()),
+            slow,
+            ahead,
+        ]);
+    }
+    table(
+        &[
+            "case",
+            "library",
+            "±",
+            "fast Rust",
+            "±",
+            "library / fast",
+            "obvious Rust",
+            "obvious / library",
+        ],
+        &rows,
+    )
+}
+
+const ROUNDS: [u64; 3] = [1_024, 8_192, 86_400];
+const FILMS: [u64; 3] = [64, 512, 4_096];
+const BOOKINGS: [u64; 4] = [1, 16, 64, 256];
+
+/// Each call's times over the sizes of a day, and how far the obvious version is behind.
+pub fn grid_tables(effort: Effort, ratios: &mut Ratios) -> Vec<(&'static str, String)> {
+    let calls = [
+        ("book", Call::Book),
+        ("drop", Call::Drop),
+        ("play", Call::Play),
+    ];
+    let mut rows: Vec<Vec<Vec<String>>> = vec![Vec::new(); calls.len()];
+    let mut spreads: Vec<Vec<f64>> = vec![Vec::new(); calls.len()];
+    for rounds in ROUNDS {
+        for film in FILMS.into_iter().filter(|film| film + 20 < rounds) {
+            let name = format!("{} / {}", grouped(rounds), grouped(film));
+            let mut cells: Vec<Vec<String>> = vec![vec![name.clone()]; calls.len()];
+            let mut behind = vec![String::new(); calls.len()];
+            for bookings in BOOKINGS {
+                let size = Size {
+                    rounds,
+                    bookings,
+                    film,
+                };
+                if !size.possible() {
+                    cells.iter_mut().for_each(|row| row.push("–".to_string()));
+                    continue;
+                }
+                eprintln!("bench: {name}, {bookings} bookings");
+                let state = State::new(day(size));
+                for (place, &(call_name, call)) in calls.iter().enumerate() {
+                    // A full list takes no booking, so that one stands less.
+                    let full = call == Call::Book && bookings == 256;
+                    let mut state = state.clone();
+                    state.fixture.day.count -= u64::from(full);
+                    let contest = contest(call, &state, effort, bookings <= 64);
+                    ratios.put(&format!("{call_name}, {name}, {bookings}"), &contest);
+                    spreads[place].push(contest.library.spread());
+                    let mark = if contest.refusal == 0 { "" } else { " *" };
+                    cells[place].push(format!(
+                        "{} ({:.2}){mark}",
+                        seconds(contest.library.median()),
+                        contest.ratio()
+                    ));
+                    match contest.slow {
+                        Slow::Takes(time) => {
+                            behind[place] = format!("{:.0}", time / contest.library.median());
+                        }
+                        Slow::Over(time) => {
+                            let times = time / contest.library.median();
+                            behind[place] = format!("over {times:.0}");
+                        }
+                        Slow::NotTried => {}
+                    }
+                }
+            }
+            for ((rows, mut cells), behind) in rows.iter_mut().zip(cells).zip(behind) {
+                cells.push(behind);
+                rows.push(cells);
+            }
+        }
+    }
+    let heads = |call: &'static str| {
+        [
+            call,
+            "1 booking",
+            "16 bookings",
+            "64 bookings",
+            "256 bookings",
+            "obvious / library, 64",
+        ]
+    };
+    let tables = calls.iter().zip(rows).zip(spreads);
+    tables
+        .map(|((&(call, _), rows), mut spreads)| {
+            spreads.sort_by(f64::total_cmp);
+            let spread = format!(
+                "\nSpread: {:.1} % of the median in the middle case, {:.1} % in the widest.\n",
+                spreads[spreads.len() / 2],
+                spreads[spreads.len() - 1]
+            );
+            (call, table(&heads(call), &rows) + &spread)
+        })
+        .collect()
+}
