@@ -64,8 +64,8 @@ differential: $(ARCHIVE)
 # ---- Measured
 
 .PHONY: bench study picture
-MEASURE := $(CURDIR)/target/cargo/release
-BUILD_BENCH = @cd bench && $(CARGO) build -q --release
+MEASURE := $(CURDIR)/target/cargo/measure
+BUILD_BENCH = @cd bench && $(CARGO) build -q --profile measure
 
 # make bench: times beside two versions in Rust, growth, stack, instructions; under ten minutes. make study: the papers' comparison.
 # With WRITE=1 their tables go into docs/BENCHMARKS.md and their pictures into docs/pictures. PARTS="files days .." takes some parts.
