@@ -63,9 +63,13 @@ differential: $(ARCHIVE)
 
 # ---- Measured
 
-.PHONY: bench study picture
+.PHONY: bench bench-test study picture
 MEASURE := $(CURDIR)/target/cargo/measure
 BUILD_BENCH = @cd bench && $(CARGO) build -q --profile measure
+
+# make bench-test: the library and both versions in Rust agree with the second implementation on drawn input.
+bench-test: $(ARCHIVE)
+	@cd bench && $(CARGO) test -q --release
 
 # make bench: times beside two versions in Rust, growth, stack, instructions; under ten minutes. make study: the papers' comparison.
 # With WRITE=1 their tables go into docs/BENCHMARKS.md and their pictures into docs/pictures. PARTS="files days .." takes some parts.

@@ -75,6 +75,22 @@ all-tied-snoc S f [] (z ∷ xs) t b x u = absurd t
 all-tied-snoc S f (c ∷ bs) [] t b x u = absurd t
 all-tied-snoc S f (c ∷ bs) (z ∷ xs) t b x u = (t .0, all-tied-snoc S f bs xs (t .1) b x u)
 
+-- what a start s that was found leaves to be done, where o, r and h are the sheet of the standing bookings: it takes the request's
+-- stream, the record has its place, and with both done the call is the model's
+pub record Started (f : List ℕ) (day : Day) (rows : List Booking) (places : ℕ) (q : Request) (o₀ r₀ h₀ o r h : List ℕ) (s : ℕ) : Type 0 where
+  pub raises : Raises f (startAt s (requestOf f q)) (day .rounds) o r h
+  pub count : day .count < maxBookings
+  pub film : q .film < 2 ^ 16
+  pub prefetch : q .prefetch ≤ maxPrefetch
+  pub reserve : q .reserve ≤ maxReserve
+  pub start : s ≤ maxDay
+  pub leaves : (o′ r′ h′ : List ℕ) → Raised f (startAt s (requestOf f q)) (day .rounds) o r h o′ r′ h′
+      → Leaves (settingAt f day) (bookCall (settingAt f day) (stateOf day rows places o₀ r₀ h₀) q) (Booked s)
+      (record { rounds = day .rounds; disk = day .disk; memory = day .memory; now = day .now; count = day .count + 1 })
+      (set rows (day .count) (recordOf q s)) o′ r′ h′
+  pub lengths : (o′ r′ h′ : List ℕ) → Raised f (startAt s (requestOf f q)) (day .rounds) o r h o′ r′ h′
+      → (length o′ ≡ length o₀) × (length r′ ≡ length r₀) × (length h′ ≡ length h₀)
+
 module _ (f : List ℕ) (day : Day) (rows : List Booking) (places : ℕ) (q : Request) (o₀ r₀ h₀ : List ℕ) (bytes : Bytes f)
     (full : length rows ≡ maxBookings)
     (passed : refusal (bookAsks f day rows places q (length o₀) (length r₀) (length h₀)) ≡ 0) where
@@ -207,7 +223,7 @@ module _ (f : List ℕ) (day : Day) (rows : List Booking) (places : ℕ) (q : Re
         model-at : startOf S d q ≡ Fit.at s
         model-at = found-same ∙ answer-at s found at-s
 
-        pub in-window : (q .first ≤ s) × (s ≤ q .last)
+        in-window : (q .first ≤ s) × (s ≤ q .last)
         in-window = go found (answer-at s found at-s) (search-finds (fitsAt (queryOf y (profileOf f y) (take (day .count) xs) o r h (day .disk) (day .memory))) (q .first) (suc (q .last) - q .first))
           where
             go : (m : Fit.Found) → m ≡ Fit.at s → Finds (fitsAt (queryOf y (profileOf f y) (take (day .count) xs) o r h (day .disk) (day .memory))) (q .first) (suc (q .last) - q .first) m
@@ -228,59 +244,40 @@ module _ (f : List ℕ) (day : Day) (rows : List Booking) (places : ℕ) (q : Re
               stored = request-fair .stored;
             }
 
-        pub raises : Raises f (startAt s y) T o r h
-        raises =
-            laid-raises f (take (day .count) xs) (startAt s y) T o₀ r₀ h₀ o r h laid (omega (arith, count-taken, asks .few)) good-taken started
-            (omega (arith, last-within, in-window)) sheet-places
+        tied-snoc : AllTied S f (bs ++ (recordOf q s ∷ [])) (take (day .count) xs ++ (startAt s y ∷ []))
+        tied-snoc = all-tied-snoc S f bs (take (day .count) xs) tied (recordOf q s) (startAt s y) (ties s)
 
-        -- what `append` asks
-        pub record Appendable : Type 0 where
-          pub count : day .count < maxBookings
-          pub film : q .film < 2 ^ 16
-          pub prefetch : q .prefetch ≤ maxPrefetch
-          pub reserve : q .reserve ≤ maxReserve
-          pub start : s ≤ maxDay
-
-        pub appendable : Appendable
-        appendable =
+        -- the booking is appended, and added to the sheet; each list is as long as it was
+        pub starts : Started f day rows places q o₀ r₀ h₀ o r h s
+        starts =
+            let lo = length-worked T _ o₀ o (laid .films) (stands .opens) in
+            let lr = length-worked T _ r₀ r (laid .reserved) (stands .reserves) in
+            let lh = length-worked T _ h₀ h (laid .held) (stands .helds) in
             record {
+              raises =
+                  laid-raises f (take (day .count) xs) (startAt s y) T o₀ r₀ h₀ o r h laid (omega (arith, count-taken, asks .few)) good-taken started
+                  (omega (arith, last-within, in-window)) sheet-places;
               count = asks .few;
               film = film-small f bytes (stands .accepted) (q .film) (asks .fair .film);
               prefetch = asks .fair .prefetch;
               reserve = asks .fair .reserve;
               start = omega (arith, request-fair .bounded .ends, in-window);
+              leaves = λ o′ r′ h′ raised.
+                  let c = call-same (Fit.at s) model-at in
+                  let all = laid-sheet S f (bs ++ (recordOf q s ∷ [])) (take (day .count) xs ++ (startAt s y ∷ [])) tied-snoc o₀ r₀ h₀ o′ r′ h′
+                  (laid-raised f (take (day .count) xs) (startAt s y) T o₀ r₀ h₀ o r h laid o′ r′ h′ raised) in
+                  rw c
+                  (record {
+                    answer = refl;
+                    day = ap (λ (n : ℕ). record { rounds = day .rounds; disk = day .disk; memory = day .memory; now = day .now; count = n }) (add-one (day .count));
+                    rows = refl;
+                    opens = all .films;
+                    reserves = all .reserve-sums;
+                    helds = all .held-sums;
+                  });
+              lengths = λ o′ r′ h′ raised. (
+                length-worked T _ o o′ (raised .films) (omega (arith, stands .opens)) ∙ lo,
+                length-worked T _ r r′ (raised .reserved) (omega (arith, stands .reserves)) ∙ lr,
+                length-worked T _ h h′ (raised .held) (omega (arith, stands .helds)) ∙ lh,
+              );
             }
-
-        tied-snoc : AllTied S f (bs ++ (recordOf q s ∷ [])) (take (day .count) xs ++ (startAt s y ∷ []))
-        tied-snoc = all-tied-snoc S f bs (take (day .count) xs) tied (recordOf q s) (startAt s y) (ties s)
-
-        -- the booking is appended, and added to the sheet
-        pub leaves-at : (o′ r′ h′ : List ℕ) → Raised f (startAt s y) T o r h o′ r′ h′
-            → Leaves S (bookCall S d q) (Booked s)
-            (record { rounds = day .rounds; disk = day .disk; memory = day .memory; now = day .now; count = day .count + 1 })
-            (set rows (day .count) (recordOf q s)) o′ r′ h′
-        leaves-at o′ r′ h′ raised =
-            let c = call-same (Fit.at s) model-at in
-            let all = laid-sheet S f (bs ++ (recordOf q s ∷ [])) (take (day .count) xs ++ (startAt s y ∷ [])) tied-snoc o₀ r₀ h₀ o′ r′ h′
-            (laid-raised f (take (day .count) xs) (startAt s y) T o₀ r₀ h₀ o r h laid o′ r′ h′ raised) in
-            rw c
-            (record {
-              answer = refl;
-              day = ap (λ (n : ℕ). record { rounds = day .rounds; disk = day .disk; memory = day .memory; now = day .now; count = n }) (add-one (day .count));
-              rows = refl;
-              opens = all .films;
-              reserves = all .reserve-sums;
-              helds = all .held-sums;
-            })
-
-        -- each list is as long as it was
-        pub same-lengths : (o′ r′ h′ : List ℕ) → Raised f (startAt s y) T o r h o′ r′ h′
-            → (length o′ ≡ length o₀) × (length r′ ≡ length r₀) × (length h′ ≡ length h₀)
-        same-lengths o′ r′ h′ raised =
-            let lo = length-worked T _ o₀ o (laid .films) (stands .opens) in
-            let lr = length-worked T _ r₀ r (laid .reserved) (stands .reserves) in
-            let lh = length-worked T _ h₀ h (laid .held) (stands .helds) in (
-              length-worked T _ o o′ (raised .films) (omega (arith, stands .opens)) ∙ lo,
-              length-worked T _ r r′ (raised .reserved) (omega (arith, stands .reserves)) ∙ lr,
-              length-worked T _ h h′ (raised .held) (omega (arith, stands .helds)) ∙ lh,
-            )

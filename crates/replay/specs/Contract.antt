@@ -10,7 +10,7 @@ use Rattle.model.specs.Day.{Setting, State}
 use Rattle.model.specs.Fit.{Fits}
 use Rattle.model.specs.Calls.{openQuestions}
 use Rattle.model.specs.Code.{stateOf, dayOf}
-use Rattle.model.specs.PlainDay.{PlainDay, atFirst, plainAfter, everTaken}
+use Rattle.model.specs.PlainDay.{atFirst, plainAfter, everTaken}
 use Rattle.model.specs.Expected.{expected}
 use Rattle.model.specs.declared.Booking.{Booking}
 use Rattle.model.specs.declared.Day.{Day}

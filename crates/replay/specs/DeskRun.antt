@@ -1,7 +1,7 @@
 -- A journal's entries by the model's calls, each on the state as the last one left it: what the code computes. It is the plain
 -- day's by the model's `step` (RunLaws.antt).
 use mathlib.Core.Path.{_≡_}
-use mathlib.Core.Bool.{Bool, true, false, cond}
+use mathlib.Core.Bool.{true, false, cond}
 use mathlib.Core.List.{List, [], _∷_, _++_}
 use Prim.Native.Nat.{ℕ, _+_, _-_, _≤_, _<_}
 use lib.ListN.{length, take, replicate}

@@ -1,12 +1,11 @@
 -- The loop over a journal's entries: what the rest of the entries still does to the run. Assumes nothing.
 use mathlib.Core.Path.{_≡_, refl, sym, ap, ap₂, _∙_, subst}
-use mathlib.Core.Bool.{Bool, true, false, cond}
+use mathlib.Core.Bool.{Bool, cond}
 use mathlib.Core.List.{List, [], _∷_, _++_, append-assoc, append-nil}
-use Prim.Native.Nat.{ℕ, zero, suc, _+_, _-_, _≤_, _<_}
+use Prim.Native.Nat.{ℕ, suc, _+_, _-_, _≤_, _<_}
 use native.Mathlib.Omega.{arith}
-use lib.ListN.{length, take, drop, length-append, take-append-drop}
+use lib.ListN.{length, take, drop, take-append-drop}
 use lib.Seq.{length-take-le, drop-drop}
-use lib.Dec.{leb}
 use borrow.Author.Tests.{le-leb, lt-leb}
 use Rattle.model.specs.Day.{Setting, State}
 use Rattle.model.specs.Code.{stateOf, dayOf}
@@ -14,12 +13,10 @@ use Rattle.model.specs.declared.Booking.{Booking}
 use Rattle.model.specs.declared.Day.{Day}
 use Rattle.questions.specs.Given.{settingAt}
 use Rattle.replay.specs.Journal.{entryAt, entriesFrom}
-use Rattle.replay.specs.Log.{Wrote}
 use Rattle.replay.specs.Writing.{wrote-length, wrote-front, wrote-back}
-use Rattle.replay.specs.Contract.{Result, Replays}
+use Rattle.replay.specs.Contract.{Replays}
 use Rattle.replay.specs.DeskRun.{DeskRun, outcomeWords, afterRun, noRun, carried, deskRun, runResult, Took, Kept}
 use Rattle.replay.specs.Pictured.{Pictured, pictured-next}
-use Rattle.replay.specs.declared.Replayed.{Replayed}
 use Rattle.replay.specs.declared.journal.Entry.{Entry}
 use Rattle.replay.specs.declared.step.Stepped.{Stepped}
 

@@ -1,8 +1,7 @@
 -- A replay by its opening: refused, it changes nothing; accepted, the run that follows is the plain day's. Assumes nothing.
 use mathlib.Core.Path.{_≡_, refl, sym, ap, ap₂, _∙_, subst}
-use mathlib.Core.List.{List, []}
+use mathlib.Core.List.{List}
 use Prim.Native.Nat.{ℕ, zero, suc, _≤_, min}
-use native.Mathlib.Omega.{arith}
 use lib.ListN.{length}
 use Rattle.laws.specs.Questions.{refusal}
 use Rattle.limits.specs.Bounds.{maxBookings}
@@ -24,7 +23,7 @@ use Rattle.opening.specs.Contract.{asked, Opens}
 use Rattle.opening.specs.declared.Opened.{Opened}
 use Rattle.questions.specs.Given.{settingAt}
 use Rattle.replay.specs.Journal.{entries}
-use Rattle.replay.specs.Contract.{noDay, lentTo, Result, Replays, resultAfter, resultBy, result}
+use Rattle.replay.specs.Contract.{noDay, lentTo, Result, Replays, resultBy, result}
 use Rattle.replay.specs.DeskRun.{deskRun, runResult}
 use Rattle.replay.specs.RunLaws.{run-result}
 use Rattle.replay.specs.Pictured.{Pictured, pictured-first}

@@ -1,6 +1,6 @@
 -- What a replay finds between two entries: the lent day is the one that the plain day expects, so that 14, 15, 11 and 16 would pass and
 -- need not be asked. Assumes nothing.
-use mathlib.Core.Path.{_≡_, ap, _∙_, subst}
+use mathlib.Core.Path.{_≡_, ap, _∙_}
 use mathlib.Core.List.{List}
 use Prim.Native.Nat.{ℕ, max}
 use native.Mathlib.Omega.{arith}

@@ -1,7 +1,7 @@
 -- What the plain day of document 01 makes of a journal, with a log of so many places.
 use mathlib.Core.Bool.{cond}
 use mathlib.Core.List.{List, [], _∷_, _++_}
-use Prim.Native.Nat.{ℕ, zero, suc, _-_}
+use Prim.Native.Nat.{ℕ, suc, _-_}
 use lib.ListN.{length}
 use lib.Dec.{leb}
 use Rattle.limits.specs.Refusals.{commandForm}

@@ -11,7 +11,6 @@ use lib.Dec.{leb}
 use Rattle.limits.specs.Refusals.{commandForm}
 use Rattle.model.specs.Day.{Setting, State}
 use Rattle.model.specs.Fit.{Fits, Found, nowhere, at}
-use Rattle.model.specs.Report.{written}
 use Rattle.model.specs.Calls as Calls
 use Rattle.model.specs.Calls.{Outcome}
 use Rattle.model.specs.Code.{dayOf}
@@ -27,7 +26,7 @@ use Rattle.playing.specs.Lines.{noLine}
 use Rattle.playing.specs.Contract.{linesIn}
 use Rattle.replay.specs.Log.{loggedWords}
 use Rattle.replay.specs.PlainRun.{callsOf, plainEntry, entryLog, plainLog, entriesDone}
-use Rattle.replay.specs.Contract.{Result, resultAfter}
+use Rattle.replay.specs.Contract.{resultAfter}
 use Rattle.replay.specs.DeskRun.{DeskRun, blankReport, outcomeWords, afterRun, noRun, carried, deskRun, runResult}
 use Rattle.replay.specs.declared.journal.Entry.{Entry}
 use Rattle.replay.specs.declared.journal.Entry.the-variants.{Book, Drop, Play, Unknown}

@@ -1,7 +1,7 @@
 -- One entry: what a call leaves and logs is what `Steps` says. Assumes nothing.
 use mathlib.Core.Path.{_≡_, refl, sym, ap, ap₂, _∙_, subst}
-use mathlib.Core.Bool.{Bool, true, false, true≢false}
-use mathlib.Core.List.{List, [], _∷_, _++_}
+use mathlib.Core.Bool.{true, false, true≢false}
+use mathlib.Core.List.{List, []}
 use Prim.Native.Nat.{ℕ, zero, suc, _+_, _-_, _*_, _/_, _≤_, _<_}
 use native.Mathlib.Omega.{arith}
 use lib.ListN.{length, take, drop, replicate, length-append, length-replicate}
@@ -25,11 +25,11 @@ use Rattle.questions.specs.Given.{settingAt}
 use Rattle.booking.specs.Contract as Book
 use Rattle.dropping.specs.Contract.{Drops}
 use Rattle.dropping.specs.declared.DropOutcome.{DropOutcome}
-use Rattle.playing.specs.Lines.{noLine, padded}
+use Rattle.playing.specs.Lines.{noLine}
 use Rattle.playing.specs.Contract.{linesIn, linesFor, Plays}
 use Rattle.playing.specs.declared.Played as Play
 use Rattle.replay.specs.Log.{answerWords, linesWords, loggedWords, Wrote}
-use Rattle.replay.specs.Writing.{wrote-then, lines-length, lines-size}
+use Rattle.replay.specs.Writing.{wrote-then, lines-length}
 use Rattle.replay.specs.DeskRun.{blankReport, refusalOf, outcomeWords, carried, Took, Kept, Steps, Refuses}
 use Rattle.replay.specs.declared.journal.Entry.{Entry}
 use Rattle.replay.specs.declared.journal.Entry.the-variants as E

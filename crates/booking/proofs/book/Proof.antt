@@ -1,8 +1,6 @@
 -- `booking::book` meets its contract: a number before booking's own questions stands, else these decide; and by the model's call the
 -- start is the first that fits. Assumes nothing.
 use mathlib.Core.Path.{_≡_, sym, ap, _∙_}
-use Prim.Native.Nat.{ℕ}
-use native.Mathlib.Omega.{arith}
 use borrow.Author.Needs.{needs}
 use lib.ListN.{length}
 use Rattle.laws.specs.Questions.{refusal}

@@ -1,10 +1,11 @@
 -- `booking::place` meets its contract: the sheet laid is that of the standing bookings, so the start found is the model's, and one
 -- booking more makes the model's sheet. Assumes nothing.
-use mathlib.Core.Path.{_≡_, refl, sym, ap, _∙_}
+use mathlib.Core.Path.{_≡_, sym, ap, _∙_}
+use mathlib.Core.List.{List}
 use Prim.Native.Nat.{ℕ}
 use native.Mathlib.Omega.{arith}
 use borrow.Author.Needs.{needs}
-use lib.ListN.{length, take}
+use lib.ListN.{take}
 use Rattle.laws.specs.Words.{Bytes}
 use Rattle.films.specs.Catalogue.{catalogueOf}
 use Rattle.films.specs.declared.types.Catalogue.{Catalogue}
@@ -14,51 +15,130 @@ use Rattle.load.specs.Stream.{profileOf}
 use Rattle.load.specs.Streams.{streamOf, streamsOf}
 use Rattle.load.specs.declared.stream.Stream.{Stream}
 use Rattle.search.specs.Fit.{queryOf, fitsAt, answerOf, startAt}
+use Rattle.search.specs.declared.Found.the-variants.{At}
 use Rattle.booking.specs.Own.{requestOf}
-use Rattle.booking.specs.Placed.{stands, lays, in-range, window, raises, appendable, leaves-none, leaves-at, same-lengths}
+use Rattle.booking.specs.Placed.{stands, lays, in-range, window, leaves-none, Started, starts}
 use Rattle.booking.proofs.place.Statement.{statement}
 use Rattle.booking.proofs.place.Tie as tie
 
+-- ---- what the calls before the search give
+
+bytes : (known : tie.After-shared-slice-known) → Bytes (known .before .args .file .now)
+bytes known k = omega (arith, known .shared-slice-known .given k)
+
+streams : (made : tie.After-streams-of)
+    → let a = made .before .before .before .before .before .args in
+    made .streams-of .result ≡ streamsOf (catalogueOf (a .file .now)) (a .day .count) (a .rows)
+streams made =
+    let start = made .before .before .before .before .before in
+    let a = start .args in
+    made .streams-of .ensures ∙ ap (λ (k : Catalogue). streamsOf k (a .day .count) (a .rows)) (start .pre .0)
+
+-- the sheet is laid, and the request has its stream
+abbrev laid : tie.After-requested → tie.After-lay-sheet
+laid asked = asked .before .before .before .before .before .before .before
+
+abbrev made : tie.After-requested → tie.After-streams-of
+made asked = laid asked .before .before .before .before
+
+abbrev start : tie.After-requested → tie.Start
+start asked = made asked .before .before .before .before .before
+
+request : (asked : tie.After-requested) → asked .requested .result ≡ requestOf (start asked .args .file .now) (start asked .args .q)
+request asked =
+    asked .requested .ensures ∙ ap (λ (k : Catalogue). streamOf k (recordOf (start asked .args .q) 0)) (start asked .pre .0)
+
+abbrev opens : tie.After-requested → List ℕ
+opens asked = laid asked .lay-sheet .last .1 .1 .1 .1 .0
+
+abbrev reserves : tie.After-requested → List ℕ
+reserves asked = laid asked .lay-sheet .last .1 .1 .1 .1 .1 .0
+
+abbrev helds : tie.After-requested → List ℕ
+helds asked = laid asked .lay-sheet .last .1 .1 .1 .1 .1 .1 .0
+
+-- ---- the search
+
+abbrev before-search : tie.After-first-start → tie.After-requested
+before-search c = c .before .before .before .before
+
+-- it answers the first start of the window that fits the request's stream
+first : (c : tie.After-first-start)
+    → let b = before-search c in
+    let a = start b .args in
+    let y = requestOf (a .file .now) (a .q) in
+    c .first-start .result
+    ≡ answerOf (firstOf (fitsAt (queryOf y (profileOf (a .file .now) y) (take (a .day .count) (made b .streams-of .result)) (opens b) (reserves b) (helds b) (a .day .disk) (a .day .memory))) (a .q .first) (a .q .last))
+first c =
+    let b = before-search c in
+    let a = start b .args in
+    c .first-start .ensures
+    ∙ ap (λ (y : Stream). answerOf (firstOf (fitsAt (queryOf y (profileOf (a .file .now) y) (take (a .day .count) (made b .streams-of .result)) (opens b) (reserves b) (helds b) (a .day .disk) (a .day .memory))) (a .q .first) (a .q .last)))
+    (request b)
+
+-- what a start that it found leaves to be done
+started : (c : tie.After-first-start) (s : ℕ) → At s ≡ c .first-start .result
+    → let b = before-search c in
+    let a = start b .args in
+    Started (a .file .now) (a .day) (a .rows) (a .places) (a .q) (a .opens .now) (a .reserves .now) (a .helds .now) (opens b) (reserves b) (helds b) s
+started c s e =
+    let b = before-search c in
+    let a = start b .args in
+    starts (a .file .now) (a .day) (a .rows) (a .places) (a .q) (a .opens .now) (a .reserves .now) (a .helds .now)
+    (bytes (made b .before .before .before .before)) (omega (arith, start b)) (start b .pre .1) (made b .streams-of .result) (streams (made b)) _ _ _
+    (laid b .lay-sheet .ensures) s (e ∙ first c)
+
+-- the same, where the request's stream is put at the start found
+abbrev found-at : tie.After-start-at → ℕ
+found-at c = c .before .before .found .given .0 .0
+
+abbrev searched : tie.After-start-at → tie.After-first-start
+searched c = c .before .before .before .before
+
+stream-at : (c : tie.After-start-at)
+    → let a = start (before-search (searched c)) .args in
+    c .start-at .result ≡ startAt (found-at c) (requestOf (a .file .now) (a .q))
+stream-at c = c .start-at .ensures ∙ ap (startAt (found-at c)) (request (before-search (searched c)))
+
+at-start : (c : tie.After-start-at)
+    → let b = before-search (searched c) in
+    let a = start b .args in
+    Started (a .file .now) (a .day) (a .rows) (a .places) (a .q) (a .opens .now) (a .reserves .now) (a .helds .now) (opens b) (reserves b) (helds b) (found-at c)
+at-start c = started (searched c) (found-at c) (sym (c .before .before .found .given .1))
+
+-- ---- the needs
+
 streams-of-requires : tie.Need-streams-of-requires
 streams-of-requires c κs =
-    let sh = c .before .before .before in
-    let start = sh .before in
-    let a = start .args in
-    let f = a .file .now in
-    let bytes : Bytes f = λ k. omega (arith, sh .shared-slice-known .given k) in
-    stands f (a .day) (a .rows) (a .places) (a .q) (a .opens .now) (a .reserves .now) (a .helds .now) bytes (omega (arith, start)) (start .pre .1) .few
+    let known = c .before .before .before in
+    let a = known .before .args in
+    stands (a .file .now) (a .day) (a .rows) (a .places) (a .q) (a .opens .now) (a .reserves .now) (a .helds .now) (bytes known)
+    (omega (arith, known .before)) (known .before .pre .1) .few
 
 lay-sheet-requires : tie.Need-lay-sheet-requires
 lay-sheet-requires c κs =
     let made = c .before .before .before in
-    let sh = made .before .before .before .before in
-    let start = sh .before in
-    let a = start .args in
-    let f = a .file .now in
-    let bytes : Bytes f = λ k. omega (arith, sh .shared-slice-known .given k) in
-    let em : made .streams-of .result ≡ streamsOf (catalogueOf f) (a .day .count) (a .rows) =
-    made .streams-of .ensures ∙ ap (λ (k : Catalogue). streamsOf k (a .day .count) (a .rows)) (start .pre .0) in
-    lays f (a .day) (a .rows) (a .places) (a .q) (a .opens .now) (a .reserves .now) (a .helds .now) bytes (omega (arith, start)) (start .pre .1) (made .streams-of .result) em
+    let known = made .before .before .before .before in
+    let a = known .before .args in
+    lays (a .file .now) (a .day) (a .rows) (a .places) (a .q) (a .opens .now) (a .reserves .now) (a .helds .now) (bytes known)
+    (omega (arith, known .before)) (known .before .pre .1) (made .streams-of .result) (streams made)
 
 requested-requires : tie.Need-requested-requires
 requested-requires c κs = search needs
 
 first-start-requires : tie.Need-first-start-requires
 first-start-requires c κs =
-    let req = c .before .before .before in
-    let ls = req .before .before .before .before .before .before .before in
-    let made = ls .before .before .before .before in
-    let sh = made .before .before .before .before in
-    let start = sh .before in
-    let a = start .args in
-    let f = a .file .now in
-    let ey : req .requested .result ≡ requestOf f (a .q) =
-    req .requested .ensures ∙ ap (λ (k : Catalogue). streamOf k (recordOf (a .q) 0)) (start .pre .0) in
-    let bytes : Bytes f = λ k. omega (arith, sh .shared-slice-known .given k) in
-    let em : made .streams-of .result ≡ streamsOf (catalogueOf f) (a .day .count) (a .rows) =
-    made .streams-of .ensures ∙ ap (λ (k : Catalogue). streamsOf k (a .day .count) (a .rows)) (start .pre .0) in
-    rw ey
-    (stands f (a .day) (a .rows) (a .places) (a .q) (a .opens .now) (a .reserves .now) (a .helds .now) bytes (omega (arith, start)) (start .pre .1) .few, in-range f (a .day) (a .rows) (a .places) (a .q) (a .opens .now) (a .reserves .now) (a .helds .now) bytes (omega (arith, start)) (start .pre .1) (made .streams-of .result) em _ _ _ (ls .lay-sheet .ensures), window f (a .day) (a .rows) (a .places) (a .q) (a .opens .now) (a .reserves .now) (a .helds .now) bytes (omega (arith, start)) (start .pre .1) (made .streams-of .result) em _ _ _ (ls .lay-sheet .ensures))
+    let b = c .before .before .before in
+    let known = made b .before .before .before .before in
+    let a = start b .args in
+    rw (request b) (
+      stands (a .file .now) (a .day) (a .rows) (a .places) (a .q) (a .opens .now) (a .reserves .now) (a .helds .now) (bytes known)
+          (omega (arith, start b)) (start b .pre .1) .few,
+      in-range (a .file .now) (a .day) (a .rows) (a .places) (a .q) (a .opens .now) (a .reserves .now) (a .helds .now) (bytes known)
+          (omega (arith, start b)) (start b .pre .1) (made b .streams-of .result) (streams (made b)) _ _ _ (laid b .lay-sheet .ensures),
+      window (a .file .now) (a .day) (a .rows) (a .places) (a .q) (a .opens .now) (a .reserves .now) (a .helds .now) (bytes known)
+          (omega (arith, start b)) (start b .pre .1) (made b .streams-of .result) (streams (made b)) _ _ _ (laid b .lay-sheet .ensures),
+    )
 
 enum-known-found : tie.Need-enum-known-found
 enum-known-found c = search needs
@@ -68,75 +148,18 @@ start-at-requires c κs = search needs
 
 add-stream-requires : tie.Need-add-stream-requires
 add-stream-requires c κs =
-    let sa = c .before .before .before in
-    let fo = sa .before .before in
-    let fs = fo .before .before in
-    let req = fs .before .before .before .before in
-    let ls = req .before .before .before .before .before .before .before in
-    let made = ls .before .before .before .before in
-    let sh = made .before .before .before .before in
-    let start = sh .before in
-    let a = start .args in
-    let f = a .file .now in
-    let ey : req .requested .result ≡ requestOf f (a .q) =
-    req .requested .ensures ∙ ap (λ (k : Catalogue). streamOf k (recordOf (a .q) 0)) (start .pre .0) in
-    let bytes : Bytes f = λ k. omega (arith, sh .shared-slice-known .given k) in
-    let em : made .streams-of .result ≡ streamsOf (catalogueOf f) (a .day .count) (a .rows) =
-    made .streams-of .ensures ∙ ap (λ (k : Catalogue). streamsOf k (a .day .count) (a .rows)) (start .pre .0) in
-    let at-s =
-    sym (fo .found .given .1)
-    ∙ fs .first-start .ensures
-    ∙ ap (λ (y : Stream). answerOf (firstOf (fitsAt (queryOf y (profileOf f y) (take (a .day .count) (made .streams-of .result)) (ls .lay-sheet .last .1 .1 .1 .1 .0) (ls .lay-sheet .last .1 .1 .1 .1 .1 .0) (ls .lay-sheet .last .1 .1 .1 .1 .1 .1 .0) (a .day .disk) (a .day .memory))) (a .q .first) (a .q .last))) ey in
-    rw (sa .start-at .ensures, ey) (raises f (a .day) (a .rows) (a .places) (a .q) (a .opens .now) (a .reserves .now) (a .helds .now) bytes (omega (arith, start)) (start .pre .1) (made .streams-of .result) em _ _ _ (ls .lay-sheet .ensures) _ at-s)
+    let at = c .before .before .before in
+    rw (stream-at at) (at-start at .raises)
 
 add-t39 : tie.Need-add-t39
 add-t39 c =
-    let added = c .before .before .before .before .before .before .before in
-    let sa = added .before .before .before .before in
-    let fo = sa .before .before in
-    let fs = fo .before .before in
-    let req = fs .before .before .before .before in
-    let ls = req .before .before .before .before .before .before .before in
-    let made = ls .before .before .before .before in
-    let sh = made .before .before .before .before in
-    let start = sh .before in
-    let a = start .args in
-    let f = a .file .now in
-    let ey : req .requested .result ≡ requestOf f (a .q) =
-    req .requested .ensures ∙ ap (λ (k : Catalogue). streamOf k (recordOf (a .q) 0)) (start .pre .0) in
-    let bytes : Bytes f = λ k. omega (arith, sh .shared-slice-known .given k) in
-    let em : made .streams-of .result ≡ streamsOf (catalogueOf f) (a .day .count) (a .rows) =
-    made .streams-of .ensures ∙ ap (λ (k : Catalogue). streamsOf k (a .day .count) (a .rows)) (start .pre .0) in
-    let at-s =
-    sym (fo .found .given .1)
-    ∙ fs .first-start .ensures
-    ∙ ap (λ (y : Stream). answerOf (firstOf (fitsAt (queryOf y (profileOf f y) (take (a .day .count) (made .streams-of .result)) (ls .lay-sheet .last .1 .1 .1 .1 .0) (ls .lay-sheet .last .1 .1 .1 .1 .1 .0) (ls .lay-sheet .last .1 .1 .1 .1 .1 .1 .0) (a .day .disk) (a .day .memory))) (a .q .first) (a .q .last))) ey in
-    omega (arith, appendable f (a .day) (a .rows) (a .places) (a .q) (a .opens .now) (a .reserves .now) (a .helds .now) bytes (omega (arith, start)) (start .pre .1) (made .streams-of .result) em _ _ _ (ls .lay-sheet .ensures) _ at-s .count)
+    let at = c .before .before .before .before .before .before .before .before .before .before .before in
+    omega (arith, at-start at .count)
 
 append-requires : tie.Need-append-requires
 append-requires c κs =
-    let added = c .before .before .before .before .before .before .before in
-    let sa = added .before .before .before .before in
-    let fo = sa .before .before in
-    let fs = fo .before .before in
-    let req = fs .before .before .before .before in
-    let ls = req .before .before .before .before .before .before .before in
-    let made = ls .before .before .before .before in
-    let sh = made .before .before .before .before in
-    let start = sh .before in
-    let a = start .args in
-    let f = a .file .now in
-    let ey : req .requested .result ≡ requestOf f (a .q) =
-    req .requested .ensures ∙ ap (λ (k : Catalogue). streamOf k (recordOf (a .q) 0)) (start .pre .0) in
-    let bytes : Bytes f = λ k. omega (arith, sh .shared-slice-known .given k) in
-    let em : made .streams-of .result ≡ streamsOf (catalogueOf f) (a .day .count) (a .rows) =
-    made .streams-of .ensures ∙ ap (λ (k : Catalogue). streamsOf k (a .day .count) (a .rows)) (start .pre .0) in
-    let at-s =
-    sym (fo .found .given .1)
-    ∙ fs .first-start .ensures
-    ∙ ap (λ (y : Stream). answerOf (firstOf (fitsAt (queryOf y (profileOf f y) (take (a .day .count) (made .streams-of .result)) (ls .lay-sheet .last .1 .1 .1 .1 .0) (ls .lay-sheet .last .1 .1 .1 .1 .1 .0) (ls .lay-sheet .last .1 .1 .1 .1 .1 .1 .0) (a .day .disk) (a .day .memory))) (a .q .first) (a .q .last))) ey in
-    let can = appendable f (a .day) (a .rows) (a .places) (a .q) (a .opens .now) (a .reserves .now) (a .helds .now) bytes (omega (arith, start)) (start .pre .1) (made .streams-of .result) em _ _ _ (ls .lay-sheet .ensures) _ at-s in
-    (can .count, can .film, can .prefetch, can .reserve, can .start)
+    let can = at-start (c .before .before .before .before .before .before .before .before .before .before .before) in
+    (can .count, can .film, can .prefetch, can .reserve, omega (arith, can .start))
 
 enum-told : tie.Need-enum-told
 enum-told c = search needs
@@ -144,102 +167,26 @@ enum-told c = search needs
 same-length : tie.Need-same-length
 same-length c =
     let added = c .before .before .before .before .before .before .before .before in
-    let sa = added .before .before .before .before in
-    let fo = sa .before .before in
-    let fs = fo .before .before in
-    let req = fs .before .before .before .before in
-    let ls = req .before .before .before .before .before .before .before in
-    let made = ls .before .before .before .before in
-    let sh = made .before .before .before .before in
-    let start = sh .before in
-    let a = start .args in
-    let f = a .file .now in
-    let ey : req .requested .result ≡ requestOf f (a .q) =
-    req .requested .ensures ∙ ap (λ (k : Catalogue). streamOf k (recordOf (a .q) 0)) (start .pre .0) in
-    let bytes : Bytes f = λ k. omega (arith, sh .shared-slice-known .given k) in
-    let em : made .streams-of .result ≡ streamsOf (catalogueOf f) (a .day .count) (a .rows) =
-    made .streams-of .ensures ∙ ap (λ (k : Catalogue). streamsOf k (a .day .count) (a .rows)) (start .pre .0) in
-    let at-s =
-    sym (fo .found .given .1)
-    ∙ fs .first-start .ensures
-    ∙ ap (λ (y : Stream). answerOf (firstOf (fitsAt (queryOf y (profileOf f y) (take (a .day .count) (made .streams-of .result)) (ls .lay-sheet .last .1 .1 .1 .1 .0) (ls .lay-sheet .last .1 .1 .1 .1 .1 .0) (ls .lay-sheet .last .1 .1 .1 .1 .1 .1 .0) (a .day .disk) (a .day .memory))) (a .q .first) (a .q .last))) ey in
-    let e : added .before .before .before .before .start-at .result ≡ startAt _ (requestOf f (a .q)) = sa .start-at .ensures ∙ ap (startAt _) ey in
-    same-lengths f (a .day) (a .rows) (a .places) (a .q) (a .opens .now) (a .reserves .now) (a .helds .now) bytes (omega (arith, start)) (start .pre .1) (made .streams-of .result) em _ _ _ (ls .lay-sheet .ensures) _ at-s _ _ _ (rw e at (added .add-stream .ensures)) .0
+    let at = added .before .before .before .before in
+    at-start at .lengths _ _ _ (rw (stream-at at) at (added .add-stream .ensures)) .0
 
 same-length-2 : tie.Need-same-length-2
 same-length-2 c =
     let added = c .before .before .before .before .before .before .before .before in
-    let sa = added .before .before .before .before in
-    let fo = sa .before .before in
-    let fs = fo .before .before in
-    let req = fs .before .before .before .before in
-    let ls = req .before .before .before .before .before .before .before in
-    let made = ls .before .before .before .before in
-    let sh = made .before .before .before .before in
-    let start = sh .before in
-    let a = start .args in
-    let f = a .file .now in
-    let ey : req .requested .result ≡ requestOf f (a .q) =
-    req .requested .ensures ∙ ap (λ (k : Catalogue). streamOf k (recordOf (a .q) 0)) (start .pre .0) in
-    let bytes : Bytes f = λ k. omega (arith, sh .shared-slice-known .given k) in
-    let em : made .streams-of .result ≡ streamsOf (catalogueOf f) (a .day .count) (a .rows) =
-    made .streams-of .ensures ∙ ap (λ (k : Catalogue). streamsOf k (a .day .count) (a .rows)) (start .pre .0) in
-    let at-s =
-    sym (fo .found .given .1)
-    ∙ fs .first-start .ensures
-    ∙ ap (λ (y : Stream). answerOf (firstOf (fitsAt (queryOf y (profileOf f y) (take (a .day .count) (made .streams-of .result)) (ls .lay-sheet .last .1 .1 .1 .1 .0) (ls .lay-sheet .last .1 .1 .1 .1 .1 .0) (ls .lay-sheet .last .1 .1 .1 .1 .1 .1 .0) (a .day .disk) (a .day .memory))) (a .q .first) (a .q .last))) ey in
-    let e : added .before .before .before .before .start-at .result ≡ startAt _ (requestOf f (a .q)) = sa .start-at .ensures ∙ ap (startAt _) ey in
-    same-lengths f (a .day) (a .rows) (a .places) (a .q) (a .opens .now) (a .reserves .now) (a .helds .now) bytes (omega (arith, start)) (start .pre .1) (made .streams-of .result) em _ _ _ (ls .lay-sheet .ensures) _ at-s _ _ _ (rw e at (added .add-stream .ensures)) .1
+    let at = added .before .before .before .before in
+    at-start at .lengths _ _ _ (rw (stream-at at) at (added .add-stream .ensures)) .1
 
 same-length-3 : tie.Need-same-length-3
 same-length-3 c =
     let added = c .before .before .before .before .before .before .before .before in
-    let sa = added .before .before .before .before in
-    let fo = sa .before .before in
-    let fs = fo .before .before in
-    let req = fs .before .before .before .before in
-    let ls = req .before .before .before .before .before .before .before in
-    let made = ls .before .before .before .before in
-    let sh = made .before .before .before .before in
-    let start = sh .before in
-    let a = start .args in
-    let f = a .file .now in
-    let ey : req .requested .result ≡ requestOf f (a .q) =
-    req .requested .ensures ∙ ap (λ (k : Catalogue). streamOf k (recordOf (a .q) 0)) (start .pre .0) in
-    let bytes : Bytes f = λ k. omega (arith, sh .shared-slice-known .given k) in
-    let em : made .streams-of .result ≡ streamsOf (catalogueOf f) (a .day .count) (a .rows) =
-    made .streams-of .ensures ∙ ap (λ (k : Catalogue). streamsOf k (a .day .count) (a .rows)) (start .pre .0) in
-    let at-s =
-    sym (fo .found .given .1)
-    ∙ fs .first-start .ensures
-    ∙ ap (λ (y : Stream). answerOf (firstOf (fitsAt (queryOf y (profileOf f y) (take (a .day .count) (made .streams-of .result)) (ls .lay-sheet .last .1 .1 .1 .1 .0) (ls .lay-sheet .last .1 .1 .1 .1 .1 .0) (ls .lay-sheet .last .1 .1 .1 .1 .1 .1 .0) (a .day .disk) (a .day .memory))) (a .q .first) (a .q .last))) ey in
-    let e : added .before .before .before .before .start-at .result ≡ startAt _ (requestOf f (a .q)) = sa .start-at .ensures ∙ ap (startAt _) ey in
-    same-lengths f (a .day) (a .rows) (a .places) (a .q) (a .opens .now) (a .reserves .now) (a .helds .now) bytes (omega (arith, start)) (start .pre .1) (made .streams-of .result) em _ _ _ (ls .lay-sheet .ensures) _ at-s _ _ _ (rw e at (added .add-stream .ensures)) .2
+    let at = added .before .before .before .before in
+    at-start at .lengths _ _ _ (rw (stream-at at) at (added .add-stream .ensures)) .2
 
 returns : tie.Need-returns
 returns c =
     let added = c .before .before .before .before .before .before .before .before in
-    let sa = added .before .before .before .before in
-    let fo = sa .before .before in
-    let fs = fo .before .before in
-    let req = fs .before .before .before .before in
-    let ls = req .before .before .before .before .before .before .before in
-    let made = ls .before .before .before .before in
-    let sh = made .before .before .before .before in
-    let start = sh .before in
-    let a = start .args in
-    let f = a .file .now in
-    let ey : req .requested .result ≡ requestOf f (a .q) =
-    req .requested .ensures ∙ ap (λ (k : Catalogue). streamOf k (recordOf (a .q) 0)) (start .pre .0) in
-    let bytes : Bytes f = λ k. omega (arith, sh .shared-slice-known .given k) in
-    let em : made .streams-of .result ≡ streamsOf (catalogueOf f) (a .day .count) (a .rows) =
-    made .streams-of .ensures ∙ ap (λ (k : Catalogue). streamsOf k (a .day .count) (a .rows)) (start .pre .0) in
-    let at-s =
-    sym (fo .found .given .1)
-    ∙ fs .first-start .ensures
-    ∙ ap (λ (y : Stream). answerOf (firstOf (fitsAt (queryOf y (profileOf f y) (take (a .day .count) (made .streams-of .result)) (ls .lay-sheet .last .1 .1 .1 .1 .0) (ls .lay-sheet .last .1 .1 .1 .1 .1 .0) (ls .lay-sheet .last .1 .1 .1 .1 .1 .1 .0) (a .day .disk) (a .day .memory))) (a .q .first) (a .q .last))) ey in
-    let e : added .before .before .before .before .start-at .result ≡ startAt _ (requestOf f (a .q)) = sa .start-at .ensures ∙ ap (startAt _) ey in
-    rw (c .append .ensures) (leaves-at f (a .day) (a .rows) (a .places) (a .q) (a .opens .now) (a .reserves .now) (a .helds .now) bytes (omega (arith, start)) (start .pre .1) (made .streams-of .result) em _ _ _ (ls .lay-sheet .ensures) _ at-s _ _ _ (rw e at (added .add-stream .ensures)))
+    let at = added .before .before .before .before in
+    rw (c .append .ensures) (at-start at .leaves _ _ _ (rw (stream-at at) at (added .add-stream .ensures)))
 
 same-length-4 : tie.Need-same-length-4
 same-length-4 c = search needs
@@ -252,24 +199,12 @@ same-length-6 c = search needs
 
 returns-2 : tie.Need-returns-2
 returns-2 c =
-    let fs = c .before .before in
-    let req = fs .before .before .before .before in
-    let ls = req .before .before .before .before .before .before .before in
-    let made = ls .before .before .before .before in
-    let sh = made .before .before .before .before in
-    let start = sh .before in
-    let a = start .args in
-    let f = a .file .now in
-    let ey : req .requested .result ≡ requestOf f (a .q) =
-    req .requested .ensures ∙ ap (λ (k : Catalogue). streamOf k (recordOf (a .q) 0)) (start .pre .0) in
-    let bytes : Bytes f = λ k. omega (arith, sh .shared-slice-known .given k) in
-    let em : made .streams-of .result ≡ streamsOf (catalogueOf f) (a .day .count) (a .rows) =
-    made .streams-of .ensures ∙ ap (λ (k : Catalogue). streamsOf k (a .day .count) (a .rows)) (start .pre .0) in
-    let at-s =
-    sym (c .enum-told .given .1)
-    ∙ fs .first-start .ensures
-    ∙ ap (λ (y : Stream). answerOf (firstOf (fitsAt (queryOf y (profileOf f y) (take (a .day .count) (made .streams-of .result)) (ls .lay-sheet .last .1 .1 .1 .1 .0) (ls .lay-sheet .last .1 .1 .1 .1 .1 .0) (ls .lay-sheet .last .1 .1 .1 .1 .1 .1 .0) (a .day .disk) (a .day .memory))) (a .q .first) (a .q .last))) ey in
-    leaves-none f (a .day) (a .rows) (a .places) (a .q) (a .opens .now) (a .reserves .now) (a .helds .now) bytes (omega (arith, start)) (start .pre .1) (made .streams-of .result) em _ _ _ (ls .lay-sheet .ensures) at-s
+    let searched = c .before .before in
+    let b = before-search searched in
+    let a = start b .args in
+    leaves-none (a .file .now) (a .day) (a .rows) (a .places) (a .q) (a .opens .now) (a .reserves .now) (a .helds .now)
+    (bytes (made b .before .before .before .before)) (omega (arith, start b)) (start b .pre .1) (made b .streams-of .result) (streams (made b)) _ _ _
+    (laid b .lay-sheet .ensures) (sym (c .enum-told .given .1) ∙ first searched)
 
 pub place-spec : {M : Type 1} → statement M
 place-spec =

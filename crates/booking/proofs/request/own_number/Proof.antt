@@ -1,10 +1,7 @@
 -- `booking::request::own_number` meets its contract: the first question that says no gives its number. Assumes nothing.
-use mathlib.Core.Path.{_≡_, sym, ap, _∙_, subst}
-use Prim.Native.Nat.{_≤_}
-use native.Mathlib.Omega.{arith}
+use mathlib.Core.Path.{_≡_, sym, ap, _∙_}
 use borrow.Author.Needs.{needs}
 use borrow.Author.Tests.{not-true, not-false}
-use Rattle.limits.specs.Bounds.{maxRounds}
 use Rattle.laws.specs.Questions.{refusal}
 use Rattle.films.specs.Sizes.{Stored}
 use Rattle.films.specs.declared.types.Catalogue.{Catalogue}

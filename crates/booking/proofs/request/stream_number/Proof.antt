@@ -1,6 +1,5 @@
 -- `booking::request::stream_number` meets its contract: the first question that says no gives its number. Assumes nothing.
-use mathlib.Core.Path.{_≡_, sym, _∙_}
-use native.Mathlib.Omega.{arith}
+use mathlib.Core.Path.{sym, _∙_}
 use borrow.Author.Needs.{needs}
 use borrow.Author.Tests.{le-leb, lt-leb, eq-eqb, ne-eqb, not-true, not-false}
 use Rattle.limits.specs.Bounds.{maxPrefetch, maxReserve}
