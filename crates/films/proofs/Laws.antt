@@ -9,15 +9,12 @@ use native.Mathlib.Decide.{decLe}
 use borrow.Author.Tests.{le-leb, lt-leb, eq-eqb, ne-eqb}
 use lib.ListN.{getD, set, replicate}
 use lib.Seq.{set-at, append-snoc}
-use lib.Dec.{leb, eqb, leb·zero}
-use lib.Bits.{bitOr, or-add-and, and-le-l, and-le-r}
-use Rattle.laws.specs.Tests.{all}
-use Rattle.laws.specs.Words.{Bytes}
+use lib.Dec.{leb, leb·zero}
+use lib.Bits.{bitOr, or-add-and, and-le-l, and-le-r, or-lt}
 use Rattle.laws.specs.Questions.{Question, refusal, refusal-stands}
 use Rattle.limits.specs.Bounds.{maxFilms, maxSize}
 use Rattle.limits.specs.Refusals.{filmOrder, roundCount}
-use Rattle.films.specs.Sizes.{size, sizes}
-use Rattle.films.specs.SizeLaws.{sizes-cut}
+use Rattle.films.specs.Sizes.{size}
 use Rattle.films.specs.Span.{span, length-span, span-more}
 use Rattle.films.specs.Questions.{entryNumber, entryRounds, exceeds, fewRounds, entryQuestions, smallSizes}
 use Rattle.films.specs.Catalogue.{places, entryAnswer}
@@ -90,41 +87,24 @@ entry-passes s i k v h e n =
     let z : k - i ≡ suc (k - (i + 1)) = omega arith in
     rw (z, add-one i) (after (own s i) (entryQuestions s (suc i) (k - suc i)) (omega arith, (omega arith, tt)) (own-answer s i ∙ sym e ∙ n))
 
--- ---- the sizes' fourth bytes
+-- ---- the sizes joined
 
--- a size is within the bound exactly if its fourth byte is 0
-small-byte : (s : List ℕ) (at : ℕ) → Bytes s → leb (size s at) maxSize ≡ eqb (getD s (at + 3) 0) 0
-small-byte s at b = go (decLe (getD s (at + 3) 0) 0)
+-- a join is within the bound exactly if both are
+or-small : (a b : ℕ) → leb (bitOr a b) maxSize ≡ leb a maxSize && leb b maxSize
+or-small a b = go (decLe a maxSize) (decLe b maxSize)
   where
-    go : Dec (getD s (at + 3) 0 ≤ 0) → leb (size s at) maxSize ≡ eqb (getD s (at + 3) 0) 0
-    go (yes z) =
-        let l : size s at ≤ maxSize = omega (arith, b at, b (at + 1), b (at + 2)) in
-        let e : getD s (at + 3) 0 ≡ 0 = omega arith in
-        le-leb _ _ l ∙ sym (eq-eqb _ _ e)
-    go (no z) =
-        let l : maxSize < size s at = omega arith in
-        let e : getD s (at + 3) 0 ≡ 0 → ⊥ = λ q. omega arith in
-        lt-leb _ _ l ∙ sym (ne-eqb _ _ e)
-
--- a join of bytes is 0 exactly if both are
-or-none : (a b : ℕ) → eqb (bitOr a b) 0 ≡ eqb a 0 && eqb b 0
-or-none a b = go (decLe a 0) (decLe b 0)
-  where
-    go : Dec (a ≤ 0) → Dec (b ≤ 0) → eqb (bitOr a b) 0 ≡ eqb a 0 && eqb b 0
+    go : Dec (a ≤ maxSize) → Dec (b ≤ maxSize) → leb (bitOr a b) maxSize ≡ leb a maxSize && leb b maxSize
     go (yes p) (yes q) =
-        let x : a ≡ 0 = omega arith in
-        let y : b ≡ 0 = omega arith in
-        let z : bitOr a b ≡ 0 = omega (arith, or-add-and a b) in
-        rw (eq-eqb _ _ z, eq-eqb _ _ x, eq-eqb _ _ y)
+        let l : bitOr a b ≤ maxSize = omega (arith, or-lt 24 a b (omega arith) (omega arith)) in
+        rw (le-leb _ _ l, le-leb _ _ p, le-leb _ _ q)
     go (yes p) (no q) =
-        let y : b ≡ 0 → ⊥ = λ e. omega arith in
-        let x : a ≡ 0 = omega arith in
-        let z : bitOr a b ≡ 0 → ⊥ = λ e. omega (arith, or-add-and a b, and-le-l a b) in
-        rw (ne-eqb _ _ z, eq-eqb _ _ x, ne-eqb _ _ y)
+        let m : maxSize < b = omega arith in
+        let l : maxSize < bitOr a b = omega (arith, or-add-and a b, and-le-l a b) in
+        rw (lt-leb _ _ l, le-leb _ _ p, lt-leb _ _ m)
     go (no p) q =
-        let x : a ≡ 0 → ⊥ = λ e. omega arith in
-        let z : bitOr a b ≡ 0 → ⊥ = λ e. omega (arith, or-add-and a b, and-le-r a b) in
-        rw (ne-eqb _ _ z, ne-eqb _ _ x)
+        let m : maxSize < a = omega arith in
+        let l : maxSize < bitOr a b = omega (arith, or-add-and a b, and-le-r a b) in
+        rw (lt-leb _ _ l, lt-leb _ _ m)
 
 and-true : (a : Bool) → a && true ≡ a
 and-true true = refl
@@ -134,57 +114,30 @@ and-assoc : (a b c : Bool) → (a && b) && c ≡ a && (b && c)
 and-assoc true b c = refl
 and-assoc false b c = refl
 
-pub one-small : (s : List ℕ) (at : ℕ) → Bytes s → eqb (getD s (at + 3) 0) 0 ≡ smallSizes s at 1
-one-small s at b = sym (rw (small-byte s at b) (and-true (eqb (getD s (at + 3) 0) 0)))
-
-pub four-small : (s : List ℕ) (at : ℕ) → Bytes s
-    → eqb (bitOr (bitOr (bitOr (getD s (at + 3) 0) (getD s (at + 7) 0)) (getD s (at + 11) 0)) (getD s (at + 15) 0)) 0 ≡ smallSizes s at 4
-four-small s at b =
-    let e1 : at + 4 + 3 ≡ at + 7 = omega arith in
-    let e2 : at + 4 + 4 + 3 ≡ at + 11 = omega arith in
-    let e3 : at + 4 + 4 + 4 + 3 ≡ at + 15 = omega arith in
-    sym
-    (rw (
-      small-byte s at b,
-      small-byte s (at + 4) b,
-      small-byte s (at + 4 + 4) b,
-      small-byte s (at + 4 + 4 + 4) b,
-      e1,
-      e2,
-      e3,
-    )
-    (simp (or-none, and-assoc, and-true)))
-
-all-join : {A : Type 0} (f : A → Bool) (l m : List A) → all f (l ++ m) ≡ all f l && all f m
-all-join f [] m = refl
-all-join f (x ∷ l) m = ap (λ b. f x && b) (all-join f l m) ∙ sym (and-assoc (f x) (all f l) (all f m))
-
--- k sizes in front of the others
-small-cut : (s : List ℕ) (from n i k : ℕ) → i + k ≤ n
-    → smallSizes s (from + 4 * i) (n - i) ≡ smallSizes s (from + 4 * i) k && smallSizes s (from + 4 * (i + k)) (n - (i + k))
-small-cut s from n i k h =
-    let e : n - i ≡ k + (n - (i + k)) = omega arith in
-    let f : from + 4 * i + 4 * k ≡ from + 4 * (i + k) = omega arith in
-    ap (smallSizes s (from + 4 * i)) e
-    ∙ ap (all (λ x. leb x maxSize)) (sizes-cut s (from + 4 * i) k (n - (i + k)))
-    ∙ all-join (λ x. leb x maxSize) (sizes s (from + 4 * i) k) (sizes s (from + 4 * i + 4 * k) (n - (i + k)))
-    ∙ ap (λ at. smallSizes s (from + 4 * i) k && smallSizes s at (n - (i + k))) f
-
-module _ (s : List ℕ) (from n i k : ℕ) (h : i + k ≤ n) where
-  pub small-next : smallSizes s (from + 4 * i) k ≡ true → smallSizes s (from + 4 * i) (n - i) ≡ smallSizes s (from + 4 * (i + k)) (n - (i + k))
-  small-next e = small-cut s from n i k h ∙ ap (λ b. b && smallSizes s (from + 4 * (i + k)) (n - (i + k))) e
-
-  pub small-stop : smallSizes s (from + 4 * i) k ≡ false → smallSizes s (from + 4 * i) (n - i) ≡ false
-  small-stop e = small-cut s from n i k h ∙ ap (λ b. b && smallSizes s (from + 4 * (i + k)) (n - (i + k))) e
-
-pub small-none : (s : List ℕ) (from n : ℕ) → smallSizes s from n ≡ smallSizes s (from + 4 * 0) (n - 0)
+pub small-none : (s : List ℕ) (from n : ℕ) → smallSizes s from n ≡ leb 0 maxSize && smallSizes s (from + 4 * 0) (n - 0)
 small-none s from n =
     let a : from + 4 * 0 ≡ from = omega arith in
     let b : n - 0 ≡ n = omega arith in
     rw (a, b)
 
-pub small-end : (s : List ℕ) (at n i : ℕ) → n ≤ i → smallSizes s at (n - i) ≡ true
-small-end s at n i h = let z : n - i ≡ 0 = omega arith in rw z
+-- one size more among those joined
+pub small-next : (s : List ℕ) (from n i joined x : ℕ) → i < n → x ≡ size s (from + 4 * i)
+    → leb joined maxSize && smallSizes s (from + 4 * i) (n - i)
+    ≡ leb (bitOr joined x) maxSize && smallSizes s (from + 4 * (i + 1)) (n - (i + 1))
+small-next s from n i joined x h e =
+    let z : n - i ≡ suc (n - (i + 1)) = omega arith in
+    let f : from + 4 * i + 4 ≡ from + 4 * (i + 1) = omega arith in
+    let rest = smallSizes s (from + 4 * (i + 1)) (n - (i + 1)) in
+    ap (λ k. leb joined maxSize && smallSizes s (from + 4 * i) k) z
+    ∙ ap (λ at. leb joined maxSize && (leb (size s (from + 4 * i)) maxSize && smallSizes s at (n - (i + 1)))) f
+    ∙ ap (λ y. leb joined maxSize && (leb y maxSize && rest)) (sym e)
+    ∙ sym (and-assoc (leb joined maxSize) (leb x maxSize) rest)
+    ∙ ap (λ b. b && rest) (sym (or-small joined x))
+
+pub small-end : (s : List ℕ) (at n i joined : ℕ) → n ≤ i → leb joined maxSize && smallSizes s at (n - i) ≡ leb joined maxSize
+small-end s at n i joined h =
+    let z : n - i ≡ 0 = omega arith in
+    rw z (and-true (leb joined maxSize))
 
 -- ---- the places of a catalogue
 
