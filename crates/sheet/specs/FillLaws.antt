@@ -13,15 +13,17 @@ use borrow.Author.Count.{below-more}
 use borrow.Author.Tests.{le-leb, leb-true, leb-false, eq-eqb, ne-eqb}
 use Rattle.limits.specs.Bounds.{maxBookings}
 use Rattle.laws.specs.Tests.{all, below}
+use Rattle.laws.specs.Fold.{fold}
 use Rattle.laws.specs.Sums.{largest}
 use Rattle.retrieval.specs.Carry.{carry}
 use Rattle.retrieval.specs.JustInTime.{due, existsBy}
 use Rattle.retrieval.specs.CarryLaws.{due-carry}
 use Rattle.retrieval.specs.Stored.{maxHeld, largest-bound}
 use Rattle.load.specs.Stream.{noStream, sendsOf, total, holdsIn, heldIn, carryFrom}
-use Rattle.load.specs.Basic.{Within, EachOf}
-use Rattle.sheet.specs.Memory.{feasible, memoryKept, Windowed, Added, Fills, Filled}
+use Rattle.load.specs.Basic.{Playable, Within, EachOf}
+use Rattle.sheet.specs.Memory.{feasible, memoryKept, later, Windowed, Added, Fills, Filled}
 use Rattle.sheet.specs.WindowLaws.{carry-late}
+use Rattle.sheet.specs.OpenLaws.{skip-carried, skip-kept}
 use Rattle.load.specs.declared.stream.Stream.{Stream}
 
 -- ---- a list with one more
@@ -54,62 +56,60 @@ all-same g h (a ∷ l) (b ∷ m) d d′ e f =
 
 -- ---- the streams from 0 to i - 1 were added
 
-pub record Filling (f : List ℕ) (xs : List Stream) (n : ℕ) (window₀ : List ℕ) (w e : ℕ) (window left : List ℕ) (i : ℕ) : Type 0 where
+pub record Filling (f : List ℕ) (xs : List Stream) (n : ℕ) (window₀ left₀ : List ℕ) (w e : ℕ) (window left : List ℕ) (i : ℕ) : Type 0 where
   pub within : i ≤ n
   pub same : length window ≡ length window₀
-  pub size : length left ≡ maxBookings
+  pub size : length left ≡ length left₀
   pub held : (t : ℕ) → w ≤ t → t < e → getD window (t - w) 0 ≡ heldIn f t (take i xs)
   pub most : largest window ≤ maxHeld * i
   pub done : (k : ℕ) → k < i → getD left k 0 ≡ carryFrom f w (getD xs k noStream)
   pub rest : (k : ℕ) → i ≤ k → k < n → getD left k 0 ≡ carryFrom f e (getD xs k noStream)
 
-module _ (f : List ℕ) (xs : List Stream) (n : ℕ) (window₀ : List ℕ) (w e : ℕ) where
-  pub filling-none : (left : List ℕ) → length left ≡ maxBookings → Fills f xs n window₀ w e left
-      → Filling f xs n window₀ w e window₀ left 0
-  filling-none left s g =
+module _ (f : List ℕ) (xs : List Stream) (n : ℕ) (window₀ left₀ : List ℕ) (w e : ℕ) (a : Fills f xs n window₀ w e left₀) where
+  pub filling-none : Filling f xs n window₀ left₀ w e window₀ left₀ 0
+  filling-none =
       record {
         within = omega arith;
         same = refl;
-        size = s;
-        held = λ t h k. g .empty (t - w);
-        most = omega (arith, largest-bound window₀ 0 (λ k. omega (arith, g .empty k)));
+        size = refl;
+        held = λ t h k. a .empty (t - w);
+        most = omega (arith, largest-bound window₀ 0 (λ k. omega (arith, a .empty k)));
         done = λ k h. absurd (not-suc-le-zero h);
-        rest = λ k h l. g .carried k l;
+        rest = λ k h l. a .carried k l;
       }
 
-  module _ (window left : List ℕ) (i : ℕ) (h : i < n) (few : n ≤ maxBookings) (g : Filling f xs n window₀ w e window left i) where
+  module _ (window left : List ℕ) (i : ℕ) (h : i < n) (g : Filling f xs n window₀ left₀ w e window left i) where
     -- what adding stream i asks
-    pub filling-asks : (left₀ : List ℕ) → Fills f xs n window₀ w e left₀
-        → Windowed f (getD xs i noStream) window w e (getD left i 0)
-    filling-asks left₀ a =
+    pub filling-asks : Windowed f (getD xs i noStream) window w e (getD left i 0)
+    filling-asks =
         record {
           stream = a .streams i h;
           order = a .order;
           places = omega (arith, a .places, g .same);
           carried = g .rest i (omega arith) h;
-          room = omega (arith, g .most);
+          room = omega (arith, g .most, a .few);
         }
 
     -- and what stands then
     pub filling-next : (after : List ℕ) (c : ℕ) → n ≤ length xs → Added f (getD xs i noStream) window after w e c
-        → Filling f xs n window₀ w e after (set left i c) (i + 1)
-    filling-next after c l a =
+        → Filling f xs n window₀ left₀ w e after (set left i c) (i + 1)
+    filling-next after c l d =
         record {
           within = omega arith;
-          same = a .same ∙ g .same;
+          same = d .same ∙ g .same;
           size = length-set left i c ∙ g .size;
           held =
               λ t u v.
-              omega (arith, a .held t u v, g .held t u v, total-take (holdsIn f t) xs i noStream (omega arith));
-          most = omega (arith, a .most, g .most);
+              omega (arith, d .held t u v, g .held t u v, total-take (holdsIn f t) xs i noStream (omega arith));
+          most = omega (arith, d .most, g .most);
           done =
               below-more _ i
               (λ k u. getD-set-other left i k c 0 (λ z. omega arith) ∙ g .done k u)
-              (getD-set-same left i c 0 (omega (arith, g .size)) ∙ a .carried);
+              (getD-set-same left i c 0 (omega (arith, g .size, a .size)) ∙ d .carried);
           rest = λ k u v. getD-set-other left i k c 0 (λ z. omega arith) ∙ g .rest k (omega arith) v;
         }
 
-  pub filling-all : (window left : List ℕ) (i : ℕ) → i ≡ n → Filling f xs n window₀ w e window left i
+  pub filling-all : (window left : List ℕ) (i : ℕ) → i ≡ n → Filling f xs n window₀ left₀ w e window left i
       → Filled f xs n window w e left
   filling-all window left i z g =
       record {
@@ -214,6 +214,15 @@ module _ (f : List ℕ) (xs : List Stream) (n T M : ℕ) (carries : List ℕ) (e
     pub passed-next : length left ≡ maxBookings → all (λ v. leb v M) (take (e - w) window) ≡ true → Passed f xs n T M left w
     passed-next s z =
         record { size = s; kept = g .kept ∙ kept-window f M xs n window w e left h k a ∙ rw z; carried = a .carried }
+
+  -- rounds in which nothing is open are skipped
+  pub passed-skip : (r : ℕ) → n ≤ length xs → EachOf (Playable f) n xs → r ≡ fold (later e) 0 (take n xs) → Passed f xs n T M carries r
+  passed-skip r h each q =
+      record {
+        size = g .size;
+        kept = g .kept ∙ skip-kept f xs n e r h each q M;
+        carried = λ i u. g .carried i u ∙ skip-carried f xs n e r h each q i u;
+      }
 
   -- no window is left
   pub passed-all : n ≤ maxBookings → n ≤ length xs → e ≡ 0

@@ -3,6 +3,7 @@ pub mod Memory
 pub mod Parts
 pub mod Sheet
 pub mod WindowLaws
+pub mod OpenLaws
 pub mod FillLaws
 pub mod SheetLaws
 pub mod LaidLaws

@@ -1,16 +1,16 @@
 -- Memory's side of a day. Document 01: "In each round .. held ≤ M".
 use mathlib.Core.Path.{_≡_}
-use mathlib.Core.Bool.{Bool}
+use mathlib.Core.Bool.{Bool, cond}
 use mathlib.Core.List.{List}
-use Prim.Native.Nat.{ℕ, _+_, _-_, _^_, _≤_, _<_}
+use Prim.Native.Nat.{ℕ, _+_, _-_, _^_, _≤_, _<_, min, max}
 use lib.ListN.{length, getD, take}
-use lib.Dec.{leb}
+use lib.Dec.{leb, ltb}
 use Rattle.limits.specs.Bounds.{maxBookings}
 use Rattle.laws.specs.Tests.{below}
 use Rattle.laws.specs.Sums.{largest}
 use Rattle.retrieval.specs.JustInTime.{existsBy}
 use Rattle.retrieval.specs.Stored.{maxHeld}
-use Rattle.load.specs.Stream.{noStream, sendsOf, holdsIn, heldIn, carryFrom}
+use Rattle.load.specs.Stream.{noStream, sendsOf, endOf, holdsIn, heldIn, carryFrom}
 use Rattle.load.specs.Basic.{Playable, EachOf}
 use Rattle.load.specs.declared.stream.Stream.{Stream}
 
@@ -21,6 +21,16 @@ feasible f x = existsBy (x .reserve) (sendsOf f x)
 -- every round of the day keeps the memory limit M
 unfoldable pub memoryKept : List ℕ → ℕ → ℕ → List Stream → Bool
 memoryKept f M T xs = below T (λ t. leb (heldIn f t xs) M)
+
+-- ---- the rounds in which a stream is open
+
+-- the larger of m and the round after the stream's last below e; m if it has none there
+unfoldable pub later : ℕ → ℕ → Stream → ℕ
+later e m x = cond (ltb (x .start) e) (max m (min (endOf x) e)) m
+
+-- the smaller of m and the stream's first round from w on; m if it has none there
+unfoldable pub earlier : ℕ → ℕ → Stream → ℕ
+earlier w m x = cond (ltb w (endOf x)) (min m (max w (x .start))) m
 
 -- ---- a window: the rounds from w to e - 1, the first of a list's places
 
@@ -46,6 +56,7 @@ pub record Fills (f : List ℕ) (xs : List Stream) (n : ℕ) (window : List ℕ)
   pub order : w ≤ e
   pub places : e ≤ w + length window
   pub empty : (k : ℕ) → getD window k 0 ≡ 0
+  pub size : n ≤ length carries
   pub carried : (i : ℕ) → i < n → getD carries i 0 ≡ carryFrom f e (getD xs i noStream)
 
 -- and what is found then: in each of the window's rounds what the streams hold together

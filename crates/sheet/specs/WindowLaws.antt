@@ -45,7 +45,7 @@ module _ (f : List ℕ) (x : Stream) (w e : ℕ) (order : w ≤ e) where
   -- ---- a window that the stream does not meet
 
   module _ (some : 1 ≤ x .rounds) (apart : min (endOf x) e ≤ max w (x .start)) where
-    skip-carry : carryFrom f e x ≡ carryFrom f w x
+    pub skip-carry : carryFrom f e x ≡ carryFrom f w x
     skip-carry = go (decLe (endOf x) w) (decLe e (x .start))
       where
         at-offset : e - x .start ≡ w - x .start → carryFrom f e x ≡ carryFrom f w x
@@ -56,7 +56,7 @@ module _ (f : List ℕ) (x : Stream) (w e : ℕ) (order : w ≤ e) where
         go (no h) (yes k) = at-offset (omega arith)
         go (no h) (no k) = at-offset (omega arith)
 
-    skip-holds : (t : ℕ) → w ≤ t → t < e → holdsIn f t x ≡ 0
+    pub skip-holds : (t : ℕ) → w ≤ t → t < e → holdsIn f t x ≡ 0
     skip-holds t h k = go (openIn t x) refl
       where
         go : (v : Bool) → openIn t x ≡ v → cond v (getD (profileOf f x) (t - x .start) 0) 0 ≡ 0

@@ -1,5 +1,5 @@
 // Memory's side of a day, tested in windows of rounds from the last to the first, so that no list by round is needed. A
-// stream's carry goes from window to window.
+// stream's carry goes from window to window. Rounds in which nothing is open are in no window.
 use limits::bounds::MAX_BOOKINGS;
 use load::stream::Stream;
 ghost use mathlib.Core.Path.{_≡_};
@@ -9,8 +9,9 @@ ghost use lib.ListN.{length, take};
 ghost use lib.Dec.{leb, eqb};
 ghost use Rattle.limits.specs.Bounds.{maxBookings};
 ghost use Rattle.laws.specs.Tests.{all};
-ghost use Rattle.load.specs.Basic.{Playable, Within, EachOf};
-ghost use Rattle.sheet.specs.Memory.{feasible, memoryKept, Windowed, Added, Fills, Filled};
+ghost use Rattle.laws.specs.Fold.{fold};
+ghost use Rattle.load.specs.Basic.{Bounded, Playable, Within, EachOf};
+ghost use Rattle.sheet.specs.Memory.{feasible, memoryKept, later, earlier, Windowed, Added, Fills, Filled};
 
 // rounds in a window, at most
 const WINDOW: usize = 4096;
@@ -27,6 +28,58 @@ fn smaller(a: usize, b: usize) -> usize
     ensures { λ r. ⌜ r ≡ min a b ⌝ }
 {
     if a < b { a } else { b }
+}
+
+// The larger of m and the round after the stream's last below e; m if it has none there.
+fn later(x: Stream, e: usize, m: usize) -> usize
+    requires { ⌜ Bounded x ⌝ }
+    ensures { λ r. ⌜ r ≡ later e m x ⌝ }
+{
+    if x.start < e {
+        return larger(m, smaller(x.start + x.prefetch + x.rounds, e));
+    }
+    m
+}
+
+// The round after the last below e in which one of the first `count` streams is open; 0 if none is.
+fn open_until(xs: [Stream; MAX_BOOKINGS], count: usize, e: usize) -> usize
+    requires { ⌜ (count ≤ maxBookings) × EachOf Bounded count xs ⌝ }
+    ensures { λ r. ⌜ (r ≡ fold (later e) 0 (take count xs)) × (r ≤ e) ⌝ }
+{
+    let mut m = 0;
+    let mut i = 0;
+    while i < count {
+        let x = xs[i];
+        m = later(x, e, m);
+        i += 1;
+    }
+    m
+}
+
+// The smaller of m and the stream's first round from w on; m if it has none there.
+fn earlier(x: Stream, w: usize, m: usize) -> usize
+    requires { ⌜ Bounded x ⌝ }
+    ensures { λ r. ⌜ r ≡ earlier w m x ⌝ }
+{
+    if w < x.start + x.prefetch + x.rounds {
+        return smaller(m, larger(w, x.start));
+    }
+    m
+}
+
+// The first of the rounds from w on in which one of the first `count` streams is open; `last` if none before that is.
+fn open_from(xs: [Stream; MAX_BOOKINGS], count: usize, w: usize, last: usize) -> usize
+    requires { ⌜ (count ≤ maxBookings) × EachOf Bounded count xs × (w ≤ last) ⌝ }
+    ensures { λ r. ⌜ (r ≡ fold (earlier w) last (take count xs)) × (w ≤ r) × (r ≤ last) ⌝ }
+{
+    let mut m = last;
+    let mut i = 0;
+    while i < count {
+        let x = xs[i];
+        m = earlier(x, w, m);
+        i += 1;
+    }
+    m
 }
 
 // Adds what the stream holds in the rounds from w to e - 1 to the first places of the window, where c is the carry of its
@@ -55,8 +108,8 @@ fn window_add(file: &[u8], x: Stream, window: &mut [u64], w: usize, e: usize, c:
     )
 }
 
-// Fills an empty window with what the first `count` streams hold in the rounds from w to e - 1, where `carries` are those of
-// their rounds from e on. Gives those of their rounds from w on.
+// Fills an empty window with what the first `count` streams hold in the rounds from w to e - 1, and turns `carries`, those of
+// their rounds from e on, into those of their rounds from w on.
 fn window_fill(
     file: &[u8],
     xs: [Stream; MAX_BOOKINGS],
@@ -64,20 +117,18 @@ fn window_fill(
     window: &mut [u64],
     w: usize,
     e: usize,
-    carries: [u64; MAX_BOOKINGS],
-) -> [u64; MAX_BOOKINGS]
-    requires { ⌜ Fills (now file) xs count (now window) w e carries ⌝ }
-    ensures { λ r. ⌜ Filled (now (file .entry)) xs count (now (window .exit)) w e r ⌝ }
+    carries: &mut [u64],
+)
+    requires { ⌜ Fills (now file) xs count (now window) w e (now carries) ⌝ }
+    ensures { λ _. ⌜ Filled (now (file .entry)) xs count (now (window .exit)) w e (now (carries .exit)) ⌝ }
 {
-    let mut left = carries;
     let mut i = 0;
     while i < count {
         let x = xs[i];
-        let c = left[i];
-        left[i] = window_add(file, x, window, w, e, c);
+        let c = carries[i];
+        carries[i] = window_add(file, x, window, w, e, c);
         i += 1;
     }
-    left
 }
 
 // Whether none of the first n places exceeds the memory limit.
@@ -122,16 +173,15 @@ pub fn held_within(
     ensures { λ r. ⌜ r ≡ memoryKept (now (file .entry)) memory «day_rounds» (take count xs) && all (feasible (now (file .entry))) (take count xs) ⌝ }
 {
     let mut carries = [0u64; MAX_BOOKINGS];
-    let mut e = day_rounds;
+    let mut e = open_until(xs, count, day_rounds);
     while 0 < e {
-        let w = e - smaller(e, WINDOW);
+        let w = open_from(xs, count, e - smaller(e, WINDOW), e - 1);
         let mut window = [0u64; WINDOW];
-        let left = window_fill(file, xs, count, &mut window, w, e, carries);
+        window_fill(file, xs, count, &mut window, w, e, &mut carries);
         if !window_within(&window, e - w, memory) {
             return false;
         }
-        carries = left;
-        e = w;
+        e = open_until(xs, count, w);
     }
     none_left(carries, count)
 }

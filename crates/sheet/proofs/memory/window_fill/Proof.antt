@@ -8,15 +8,16 @@ use Rattle.sheet.proofs.memory.window_fill.Statement.{statement}
 use Rattle.sheet.proofs.memory.window_fill.Tie as tie
 
 abbrev Inv-loop : tie.InvT-loop
-Inv-loop file count window₀ w e xs left₀ i₀ window left i = Filling file xs count window₀ w e window left i
+Inv-loop file count window₀ w e carries₀ xs i₀ window carries i = Filling file xs count window₀ carries₀ w e window carries i
 
 abbrev μ-loop : tie.MeasureT-loop
-μ-loop file count window₀ w e xs left₀ i₀ window left i = count - i
+μ-loop file count window₀ w e carries₀ xs i₀ window carries i = count - i
 
 loop-holds : tie.Need-loop-holds Inv-loop μ-loop
 loop-holds c =
-    let a = c .before .before .args in
-    filling-none (a .file .now) (a .t2) (a .count) (a .window .now) (a .w) (a .e) (a .carries) (omega arith) (c .before .before .pre)
+    let s = c .before .before .before in
+    let a = s .args in
+    filling-none (a .file .now) (a .t2) (a .count) (a .window .now) (a .carries .now) (a .w) (a .e) (s .pre)
 
 mul-x : tie.Need-mul-x Inv-loop μ-loop
 mul-x c = search needs
@@ -27,20 +28,21 @@ array-copy-out-x c = search needs
 mul-c : tie.Need-mul-c Inv-loop μ-loop
 mul-c c = search needs
 
-array-read-c : tie.Need-array-read-c Inv-loop μ-loop
-array-read-c c = search needs
+slice-read-c : tie.Need-slice-read-c Inv-loop μ-loop
+slice-read-c c = search needs
 
 window-add-requires : tie.Need-window-add-requires Inv-loop μ-loop
 window-add-requires c κs =
-    let a = c .before .before .before .before .before .before .args in
-    let l = c .before .before .before .loop in
-    filling-asks (a .file .now) (a .t2) (a .count) (a .window .now) (a .w) (a .e) (l .window) (l .left) (l .i) (c .before .before .loop-test .taken) (c .before .before .before .before .before .before .pre .few) (l .inv) (a .carries) (c .before .before .before .before .before .before .pre)
+    let s = c .before .before .before .before .before .before .before .before in
+    let a = s .args in
+    let l = c .before .before .before .before .loop in
+    filling-asks (a .file .now) (a .t2) (a .count) (a .window .now) (a .carries .now) (a .w) (a .e) (s .pre) (l .window) (l .carries) (l .i) (c .before .before .before .loop-test .taken) (l .inv)
 
-mul-left : tie.Need-mul-left Inv-loop μ-loop
-mul-left c = search needs
+mul-carries : tie.Need-mul-carries Inv-loop μ-loop
+mul-carries c = search needs
 
-array-write-left : tie.Need-array-write-left Inv-loop μ-loop
-array-write-left c = search needs
+slice-write-carries : tie.Need-slice-write-carries Inv-loop μ-loop
+slice-write-carries c = search needs
 
 add-i : tie.Need-add-i Inv-loop μ-loop
 add-i c = search needs
@@ -50,18 +52,24 @@ loop-less c = search needs
 
 loop-again : tie.Need-loop-again Inv-loop μ-loop
 loop-again c =
-    let a = c .before .before .before .before .before .before .before .before .before .args in
-    let l = c .before .before .before .before .before .before .loop in
-    filling-next (a .file .now) (a .t2) (a .count) (a .window .now) (a .w) (a .e) (l .window) (l .left) (l .i) (c .before .before .before .before .before .loop-test .taken) (c .before .before .before .before .before .before .before .before .before .pre .few) (l .inv) (c .before .before .window-add .last .1 .1 .0) (c .before .before .window-add .result) (omega arith) (c .before .before .window-add .ensures)
+    let s = c .before .before .before .before .before .before .before .before .before .before .before in
+    let a = s .args in
+    let l = c .before .before .before .before .before .before .before .loop in
+    let add = c .before .before .window-add in
+    filling-next (a .file .now) (a .t2) (a .count) (a .window .now) (a .carries .now) (a .w) (a .e) (s .pre) (l .window) (l .carries) (l .i) (c .before .before .before .before .before .before .loop-test .taken) (l .inv) (add .last .1 .1 .0) (add .result) (omega arith) (add .ensures)
 
 same-length : tie.Need-same-length Inv-loop μ-loop
 same-length c = search needs
 
+same-length-2 : tie.Need-same-length-2 Inv-loop μ-loop
+same-length-2 c = search needs
+
 returns : tie.Need-returns Inv-loop μ-loop
 returns c =
-    let a = c .before .before .before .before .args in
+    let s = c .before .before .before .before .before in
+    let a = s .args in
     let l = c .before .loop in
-    filling-all (a .file .now) (a .t2) (a .count) (a .window .now) (a .w) (a .e) (l .window) (l .left) (l .i) (omega arith) (l .inv)
+    filling-all (a .file .now) (a .t2) (a .count) (a .window .now) (a .carries .now) (a .w) (a .e) (s .pre) (l .window) (l .carries) (l .i) (omega arith) (l .inv)
 
 pub window-fill-spec : {M : Type 1} → statement M
 window-fill-spec =
@@ -73,12 +81,13 @@ window-fill-spec =
     mul-x
     array-copy-out-x
     mul-c
-    array-read-c
+    slice-read-c
     window-add-requires
-    mul-left
-    array-write-left
+    mul-carries
+    slice-write-carries
     add-i
     loop-less
     loop-again
     same-length
+    same-length-2
     returns)

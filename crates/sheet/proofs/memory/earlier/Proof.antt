@@ -1,0 +1,31 @@
+-- `sheet::memory::earlier` meets its contract. Assumes nothing.
+use native.Mathlib.Omega.{arith}
+use borrow.Author.Needs.{needs}
+use borrow.Author.Tests.{lt-ltb, le-ltb}
+use Rattle.sheet.specs.Memory.{earlier}
+use Rattle.sheet.proofs.memory.earlier.Statement.{statement}
+use Rattle.sheet.proofs.memory.earlier.Tie as tie
+
+add-if1 : tie.Need-add-if1
+add-if1 c = search needs
+
+add-if1-2 : tie.Need-add-if1-2
+add-if1-2 c = search needs
+
+larger-requires : tie.Need-larger-requires
+larger-requires c κs = search needs
+
+smaller-requires : tie.Need-smaller-requires
+smaller-requires c κs = search needs
+
+returns : tie.Need-returns
+unfolding earlier
+returns c = rw (lt-ltb _ _ (c .before .before .if1 .taken)) (omega arith)
+
+returns-2 : tie.Need-returns-2
+unfolding earlier
+returns-2 c = rw (le-ltb _ _ (c .if1 .left))
+
+pub earlier-spec : {M : Type 1} → statement M
+earlier-spec =
+    tie.close (tie.spec add-if1 add-if1-2 larger-requires smaller-requires returns returns-2)

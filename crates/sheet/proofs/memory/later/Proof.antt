@@ -1,0 +1,32 @@
+-- `sheet::memory::later` meets its contract. Assumes nothing.
+use native.Mathlib.Omega.{arith}
+use borrow.Author.Needs.{needs}
+use borrow.Author.Tests.{lt-ltb, le-ltb}
+use Rattle.sheet.specs.Memory.{later}
+use Rattle.sheet.proofs.memory.later.Statement.{statement}
+use Rattle.sheet.proofs.memory.later.Tie as tie
+
+add-smaller : tie.Need-add-smaller
+add-smaller c = search needs
+
+add-smaller-2 : tie.Need-add-smaller-2
+add-smaller-2 c = search needs
+
+smaller-requires : tie.Need-smaller-requires
+smaller-requires c κs = search needs
+
+larger-requires : tie.Need-larger-requires
+larger-requires c κs = search needs
+
+returns : tie.Need-returns
+unfolding later
+returns c = rw (lt-ltb _ _ (c .before .before .before .before .if1 .taken)) (omega arith)
+
+returns-2 : tie.Need-returns-2
+unfolding later
+returns-2 c = rw (le-ltb _ _ (c .if1 .left))
+
+pub later-spec : {M : Type 1} → statement M
+later-spec =
+    tie.close
+    (tie.spec add-smaller add-smaller-2 smaller-requires larger-requires returns returns-2)
