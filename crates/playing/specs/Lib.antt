@@ -4,4 +4,6 @@ pub mod Contract
 pub mod Ready
 pub mod LineLaws
 pub mod CabLaws
+pub mod OpenLaws
+pub mod ReportLaws
 pub mod Laws

@@ -1,19 +1,18 @@
 // Playing a round of a day, by value.
 pub mod cabs;
-pub mod lines;
+pub mod report;
 
-use cabs::cabs_served;
 use films::catalogue::catalogue;
 use films::types::Catalogue;
 use limits::bounds::MAX_BOOKINGS;
 use limits::refusals::DAY_OVER;
 use limits::refusals::NO_ROOM;
-use lines::lines_of;
 use model::Answer;
 use model::Booking;
 use model::Day;
 use model::Line;
 use questions::standing::standing_number;
+use report::report_of;
 ghost use mathlib.Core.Path.{_≡_};
 ghost use Rattle.laws.specs.Questions.{refusal};
 ghost use Rattle.films.specs.Catalogue.{catalogueOf};
@@ -70,15 +69,14 @@ pub fn play_standing(
     requires { ⌜ (c ≡ catalogueOf (now file)) × (refusal (standingAsks (now file) day rows places (day .rounds) (day .rounds) (day .rounds)) ≡ 0) ⌝ }
     ensures { λ r. ⌜ Plays (now (file .entry)) day rows places room r ⌝ }
 {
-    let report = lines_of(file, c, day, rows);
+    let report = report_of(file, c, day, rows);
     let own = own_number(day, report.open, room);
     if own != 0 {
         return refused(own, day);
     }
-    let cabs = cabs_served(file, c, day, rows);
     let lines = report.lines;
     Played {
-        answer: Answer::Played(report.open, cabs),
+        answer: Answer::Played(report.open, report.cabs),
         day: Day {
             rounds: day.rounds,
             disk: day.disk,

@@ -1,11 +1,11 @@
--- `playing::lines::line_of` meets its contract: a round of the stream, counted from its start. Assumes nothing.
+-- `playing::report::line_of` meets its contract: a round of the stream, counted from its start. Assumes nothing.
 use mathlib.Core.Path.{ap}
 use borrow.Author.Needs.{needs}
 use Rattle.model.specs.declared.Booking.{Booking}
 use Rattle.model.specs.declared.Line.{Line}
 use Rattle.retrieval.specs.declared.Round.{Round}
-use Rattle.playing.proofs.lines.line_of.Statement.{statement}
-use Rattle.playing.proofs.lines.line_of.Tie as tie
+use Rattle.playing.proofs.report.line_of.Statement.{statement}
+use Rattle.playing.proofs.report.line_of.Tie as tie
 
 abbrev lined : Booking → Round → Line
 lined b r = record { name = b .name; read = r .read; send = r .send; held = r .held }
