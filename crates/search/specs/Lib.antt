@@ -4,4 +4,5 @@ pub mod Search
 pub mod FitLaws
 pub mod WindowLaws
 pub mod StepLaws
+pub mod CabLaws
 pub mod ProfileLaws

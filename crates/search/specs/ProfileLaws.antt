@@ -1,9 +1,9 @@
--- The new stream's profile, worked out once into a list of zeros: what the search asks of it holds, and a start fits with it
--- exactly if it fits with the profile by definition. Assumes nothing.
-use mathlib.Core.Path.{_≡_, refl, sym, ap, ap₂, fun-ext}
+-- The new stream's profile, worked out once into a list of zeros: what the search asks of it holds, and a start passes the tests
+-- with it exactly if the stream fits there by definition. Assumes nothing.
+use mathlib.Core.Path.{_≡_, sym, ap, ap₂, fun-ext}
 use mathlib.Core.Bool.{Bool, _&&_}
 use mathlib.Core.List.{List}
-use Prim.Native.Nat.{ℕ, zero, suc, _+_, _≤_, _<_}
+use Prim.Native.Nat.{ℕ, zero, _+_, _≤_, _<_}
 use native.Mathlib.Omega.{arith}
 use lib.ListN.{getD, replicate, length-replicate, getD-replicate}
 use lib.Dec.{leb}
@@ -13,20 +13,18 @@ use Rattle.retrieval.specs.Sheet.{plus, heldIn, Adds}
 use Rattle.retrieval.specs.SheetLaws.{plus-at, length-plus, heldIn-whole, heldIn-small, largest-zeros, room-largest}
 use Rattle.load.specs.Stream.{lengthOf, profileOf}
 use Rattle.load.specs.declared.stream.Stream.{Stream}
-use Rattle.search.specs.Fit.{queryOf, memoryFits, fitsAt, HeldRows}
+use Rattle.search.specs.Fit.{queryOf, diskFits, memoryFits, cabsFit, fitsAt, HeldRows}
+use Rattle.search.specs.Search.{fits, cabsApart, testsOf}
+use Rattle.search.specs.CabLaws.{below-same}
 
-below-same : (n : ℕ) (f g : ℕ → Bool) → ((t : ℕ) → t < n → f t ≡ g t) → below n f ≡ below n g
-below-same zero f g e = refl
-below-same (suc n) f g e = ap₂ (λ (x y : Bool). x && y) (e n (omega arith)) (below-same n f g (λ t h. e t (omega arith)))
-
--- a start is tried only against the rounds of the stream's own
-fits-same : (y : Stream) (p r : List ℕ) (xs : List Stream) (opens reserves helds : List ℕ) (disk memory : ℕ)
-    → ((j : ℕ) → j < lengthOf y → getD p j 0 ≡ getD r j 0)
-    → (s : ℕ) → fitsAt (queryOf y p xs opens reserves helds disk memory) s ≡ fitsAt (queryOf y r xs opens reserves helds disk memory) s
-unfolding fitsAt memoryFits
-fits-same y p r xs opens reserves helds disk memory e s =
+-- a start is tried only against the rounds of the stream's own, and the columns tell of its cabs what the streams tell
+fits-same : (y : Stream) (p r : List ℕ) (xs : List Stream) (shows ends opens reserves helds : List ℕ) (disk memory : ℕ)
+    → ((j : ℕ) → j < lengthOf y → getD p j 0 ≡ getD r j 0) → ((s : ℕ) → cabsFit xs y s ≡ cabsApart shows ends y s)
+    → (s : ℕ) → fits (testsOf y p shows ends opens reserves helds disk memory) s ≡ fitsAt (queryOf y r xs opens reserves helds disk memory) s
+unfolding fits fitsAt memoryFits
+fits-same y p r xs shows ends opens reserves helds disk memory e k s =
     let m = below-same (lengthOf y) (λ j. leb (getD helds (s + j) 0 + getD p j 0) memory) (λ j. leb (getD helds (s + j) 0 + getD r j 0) memory) (λ j h. ap (λ (x : ℕ). leb (getD helds (s + j) 0 + x) memory) (e j h)) in
-    rw m
+    ap₂ (λ (u v : Bool). below (lengthOf y) (λ j. diskFits opens reserves disk (y .reserve) (s + j)) && (u && v)) m (sym (k s))
 
 -- the stream's profile added to m zeros
 abbrev pub worked : List ℕ → Stream → ℕ → List ℕ
@@ -60,7 +58,8 @@ module _ (f : List ℕ) (y : Stream) (m : ℕ) (film : InRange f (y .at) (y .rou
         small = λ j h. omega (arith, worked-at j h, held-bound f (y .at) (y .rounds) (y .prefetch) (y .reserve) j (film .stored));
       }
 
-  pub worked-fits : (xs : List Stream) (opens reserves helds : List ℕ) (disk memory : ℕ)
-      → fitsAt (queryOf y (worked f y m) xs opens reserves helds disk memory) ≡ fitsAt (queryOf y (profileOf f y) xs opens reserves helds disk memory)
-  worked-fits xs opens reserves helds disk memory =
-      fun-ext (fits-same y (worked f y m) (profileOf f y) xs opens reserves helds disk memory worked-at)
+  pub worked-fits : (xs : List Stream) (shows ends opens reserves helds : List ℕ) (disk memory : ℕ)
+      → ((s : ℕ) → cabsFit xs y s ≡ cabsApart shows ends y s)
+      → fits (testsOf y (worked f y m) shows ends opens reserves helds disk memory) ≡ fitsAt (queryOf y (profileOf f y) xs opens reserves helds disk memory)
+  worked-fits xs shows ends opens reserves helds disk memory k =
+      fun-ext (fits-same y (worked f y m) (profileOf f y) xs shows ends opens reserves helds disk memory worked-at k)

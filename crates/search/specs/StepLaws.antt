@@ -1,20 +1,18 @@
 -- What a step of the search finds out, from its four tests. Assumes nothing.
-use mathlib.Core.Path.{_≡_}
-use mathlib.Core.Bool.{true, false}
+use mathlib.Core.Path.{_≡_, sym, _∙_}
+use mathlib.Core.Bool.{true, false, true≢false}
 use Prim.Native.Nat.{ℕ, _+_, _-_, _≤_, _<_, max}
 use native.Mathlib.Decide.{decLe}
 use native.Mathlib.Omega.{arith}
-use Rattle.load.specs.Stream.{lengthOf}
-use Rattle.search.specs.Fit.{Query, diskFree, memoryFree, fitsAt}
-use Rattle.search.specs.Search.{PassFrom, FirstFails, afterClashes, Clear, Skips, NoneFits}
-use Rattle.search.specs.FitLaws.{fits-all, disk-rules-out, memory-rules-out, cabs-rule-out, clashes-none}
+use Rattle.search.specs.Search.{Tests, fits, PassFrom, SomeFails, FailsTo, Clear, Skips, NoneFits}
+use Rattle.search.specs.FitLaws.{fits-cabs, fits-all, disk-rules-out, memory-rules-out}
 
-module _ (q : Query) where
+module _ (q : Tests) where
   clear-on : (s u clear : ℕ) → s ≤ u → Clear q s clear → Clear q u clear
   clear-on s u clear h k = record { near = omega (arith, k .near); free = λ t l m. k .free t (omega arith) m }
 
   -- a round over the memory limit: only the start itself is ruled out
-  pub skip-memory : (s j clear : ℕ) → memoryFree q s j ≡ false → j < lengthOf (q .stream) → Clear q s clear → Skips q s (s + 1) clear
+  pub skip-memory : (s j clear : ℕ) → q .memory s j ≡ false → j < q .rounds → Clear q s clear → Skips q s (s + 1) clear
   skip-memory s j clear b h k =
       record {
         later = omega arith;
@@ -23,7 +21,7 @@ module _ (q : Query) where
       }
 
   -- the last round that the disk cannot take: every start that covers it
-  pub skip-disk : (s a r : ℕ) → s ≤ a → PassFrom (diskFree q) a (s + lengthOf (q .stream)) r → a < r → Skips q s r (s + lengthOf (q .stream))
+  pub skip-disk : (s a r : ℕ) → s ≤ a → PassFrom (q .disk) a (s + q .rounds) r → a < r → Skips q s r (s + q .rounds)
   skip-disk s a r h p k =
       record {
         later = omega arith;
@@ -32,33 +30,32 @@ module _ (q : Query) where
       }
 
   -- no such round: all rounds of the start are free for the disk
-  pub clear-all : (s clear a r : ℕ) → Clear q s clear → a ≡ max s clear → PassFrom (diskFree q) a (s + lengthOf (q .stream)) r → r ≤ a
-      → Clear q s (s + lengthOf (q .stream))
+  pub clear-all : (s clear a r : ℕ) → Clear q s clear → a ≡ max s clear → PassFrom (q .disk) a (s + q .rounds) r → r ≤ a
+      → Clear q s (s + q .rounds)
   clear-all s clear a r k e p h = record { near = omega arith; free = λ t l m. go t l m (decLe clear t) }
     where
-      go : (t : ℕ) → s ≤ t → t < s + lengthOf (q .stream) → Dec (clear ≤ t) → diskFree q t ≡ true
+      go : (t : ℕ) → s ≤ t → t < s + q .rounds → Dec (clear ≤ t) → q .disk t ≡ true
       go t l m (yes d) = p .pass t (omega arith) m
       go t l m (no d) = k .free t l (omega arith)
 
   -- a clash: every start until the other stream has ended
-  pub skip-cabs : (s next clear : ℕ) → Clear q s clear → next ≡ afterClashes (q .standing) (q .stream) s → s < next → Skips q s next clear
-  skip-cabs s next clear k e h =
+  pub skip-cabs : (s next clear : ℕ) → Clear q s clear → FailsTo (q .cabs) s next → s < next → Skips q s next clear
+  skip-cabs s next clear k c h =
       record {
         later = h;
-        none = λ u l m. cabs-rule-out q s u l (omega arith);
+        none = λ u l m e. absurd (true≢false (sym (fits-cabs q u e) ∙ c .fails u l m));
         known = clear-on s next clear (omega arith) k;
       }
 
   -- nothing stands against the start
-  pub fits-now : (s r : ℕ) → Clear q s (s + lengthOf (q .stream)) → afterClashes (q .standing) (q .stream) s ≤ s
-      → FirstFails (memoryFree q s) (lengthOf (q .stream)) r → lengthOf (q .stream) ≤ r → fitsAt q s ≡ true
-  fits-now s r k c m h =
-      fits-all q s (k .free) (λ j l. m .before j (omega arith)) (clashes-none (q .standing) (q .stream) s c)
+  pub fits-now : (s next r : ℕ) → Clear q s (s + q .rounds) → FailsTo (q .cabs) s next → next ≤ s
+      → SomeFails (q .memory s) (q .rounds) r → q .rounds ≤ r → fits q s ≡ true
+  fits-now s next r k c l m h = fits-all q s (k .free) (m .pass h) (c .pass l)
 
   -- one stretch of starts after another
   pub none-on : (a s e : ℕ) → NoneFits q a s → NoneFits q s e → NoneFits q a e
   none-on a s e f g u h k = go (decLe s u)
     where
-      go : Dec (s ≤ u) → fitsAt q u ≡ true → ⊥
+      go : Dec (s ≤ u) → fits q u ≡ true → ⊥
       go (yes l) = g u l k
       go (no l) = f u h (omega arith)

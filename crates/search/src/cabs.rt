@@ -1,57 +1,82 @@
-// Streams that share a cab.
+// The standing streams that share a cab with the new one, as two columns: the first round that each shows, and its end.
+use limits::bounds::MAX_BOOKINGS;
 use load::stream::Stream;
 ghost use mathlib.Core.Path.{_≡_};
 ghost use Prim.Native.Nat.{_+_, _≤_, _<_, min, max};
-ghost use lib.ListN.{take};
+ghost use lib.ListN.{length, take};
 ghost use Rattle.limits.specs.Bounds.{maxDay, maxBookings};
 ghost use Rattle.load.specs.Stream.{lengthOf, endOf};
 ghost use Rattle.search.specs.Fit.{EndInDay};
-ghost use Rattle.search.specs.Search.{afterClash, afterClashes};
+ghost use Rattle.search.specs.Search.{cabsApart, FailsTo};
+ghost use Rattle.search.specs.CabLaws.{afterClash, shares, Columns};
 
-pub fn larger(a: usize, b: usize) -> usize
+fn larger(a: u64, b: u64) -> u64
     ensures { λ r. ⌜ r ≡ max a b ⌝ }
 {
     if a < b { b } else { a }
 }
 
-fn smaller(a: usize, b: usize) -> usize
+fn smaller(a: u64, b: u64) -> u64
     ensures { λ r. ⌜ r ≡ min a b ⌝ }
 {
     if a < b { a } else { b }
 }
 
-// The first start from s on at which y shows only after x has ended, where they clash at s, and s where they do not.
-pub fn after_clash(x: Stream, y: Stream, s: usize) -> usize
-    requires { ⌜ (endOf x ≤ maxDay) × (s + lengthOf y ≤ maxDay) ⌝ }
-    ensures { λ r. ⌜ r ≡ afterClash x y s ⌝ }
+// 1 if the two have a cab in common, and 0 if not.
+fn common(x: Stream, y: Stream) -> usize
+    ensures { λ r. ⌜ r ≡ shares x y ⌝ }
 {
-    let common = x.cabs & y.cabs;
-    if common == 0 {
-        return s;
-    }
-    let x_shows = x.start + x.prefetch;
-    let x_end = x_shows + x.rounds;
-    let y_shows = s + y.prefetch;
-    let y_end = y_shows + y.rounds;
-    if larger(x_shows, y_shows) < smaller(x_end, y_end) {
-        return x_end - y.prefetch;
-    }
-    s
+    if x.cabs & y.cabs == 0 { 0 } else { 1 }
 }
 
-// The same for the first of the standing streams that clashes with y at s; s where none does.
-pub fn after_clashes(xs: [Stream; 256], count: usize, y: Stream, s: usize) -> usize
-    requires { ⌜ (count ≤ maxBookings) × (EndInDay (take count xs)) × (s + lengthOf y ≤ maxDay) ⌝ }
-    ensures { λ r. ⌜ r ≡ afterClashes (take count xs) y s ⌝ }
+// Fills the columns with those of the first count of xs that share a cab with y, and tells how many these are.
+pub fn fill(
+    xs: [Stream; MAX_BOOKINGS],
+    count: usize,
+    y: Stream,
+    shows: &mut [u64],
+    ends: &mut [u64],
+) -> usize
+    requires { ⌜ (count ≤ maxBookings) × (EndInDay (take count xs)) × (count ≤ length (now shows)) × (count ≤ length (now ends)) ⌝ }
+    ensures { λ r. ⌜ (Columns (take count xs) y (now (shows .exit)) (now (ends .exit)) r) × (r ≤ count)
+        × (length (now (shows .exit)) ≡ length (now (shows .entry))) × (length (now (ends .exit)) ≡ length (now (ends .entry))) ⌝ }
 {
+    let mut m = 0;
     let mut i = 0;
     while i < count {
         let x = xs[i];
-        let next = after_clash(x, y, s);
-        if s < next {
-            return next;
-        }
+        let first = x.start + x.prefetch;
+        let end = first + x.rounds;
+        shows[m] = first as u64;
+        ends[m] = end as u64;
+        m += common(x, y);
         i += 1;
     }
-    s
+    m
+}
+
+// The first round from next on in which the rounds a to e - 1 are over, where they meet those from `from` to `to` - 1.
+fn after_clash(a: u64, e: u64, from: u64, to: u64, next: u64) -> u64
+    ensures { λ r. ⌜ r ≡ afterClash a e from to next ⌝ }
+{
+    if larger(a, from) < smaller(e, to) {
+        return larger(e, next);
+    }
+    next
+}
+
+// The first start from s on at which y shows only after each of the columns that clashes with it at s has ended; s where none does.
+pub fn after_clashes(shows: &[u64], ends: &[u64], y: Stream, s: usize) -> usize
+    requires { ⌜ (length (now shows) ≤ length (now ends)) × (s + lengthOf y ≤ maxDay) ⌝ }
+    ensures { λ r. ⌜ FailsTo (cabsApart (now (shows .entry)) (now (ends .entry)) y) s r ⌝ }
+{
+    let from = (s + y.prefetch) as u64;
+    let to = from + y.rounds as u64;
+    let mut next = from;
+    let mut i = 0;
+    while i < shows.len() {
+        next = after_clash(shows[i], ends[i], from, to, next);
+        i += 1;
+    }
+    next as usize - y.prefetch
 }

@@ -4,6 +4,7 @@ mod disk;
 mod memory;
 mod window;
 
+use limits::bounds::MAX_BOOKINGS;
 use limits::bounds::MAX_PREFETCH;
 use limits::bounds::MAX_ROUNDS;
 use load::stream::Stream;
@@ -58,11 +59,16 @@ pub fn first_start(
         n,
         0,
     );
+    let mut shows = [0u64; MAX_BOOKINGS];
+    let mut ends = [0u64; MAX_BOOKINGS];
+    let sharing = cabs::fill(xs, count, y, &mut shows, &mut ends);
+    let losses = loss::table();
     window::first_fit(
         y,
         &profile,
-        xs,
-        count,
+        &shows[..sharing],
+        &ends[..sharing],
+        &losses,
         opens,
         reserves,
         helds,

@@ -2,7 +2,7 @@
 ghost use mathlib.Core.Path.{_≡_};
 ghost use Prim.Native.Nat.{_+_, _≤_, _<_};
 ghost use Rattle.search.specs.Fit.{HeldRows, memoryFits};
-ghost use Rattle.search.specs.Search.{Fails, FirstFails};
+ghost use Rattle.search.specs.Search.{Fails, SomeFails};
 
 // Whether memory takes what a stream from s on holds in round j of its own.
 pub fn takes(helds: &[u64], memory: u64, profile: &[u64], s: usize, j: usize) -> bool
@@ -12,18 +12,23 @@ pub fn takes(helds: &[u64], memory: u64, profile: &[u64], s: usize, j: usize) ->
     helds[s + j] + profile[j] <= memory
 }
 
-// Of the rounds 0 to n - 1 of a stream from s on, the first in which memory cannot take it; n if there is none.
-pub fn first_over(helds: &[u64], memory: u64, profile: &[u64], s: usize, n: usize) -> usize
+// Of the rounds 0 to n - 1 of a stream from s on, one in which memory cannot take it; n if there is none. They are looked at from
+// both ends at once, since a film that memory refuses often is refused near its first or its last round.
+pub fn some_over(helds: &[u64], memory: u64, profile: &[u64], s: usize, n: usize) -> usize
     requires { ⌜ (HeldRows (now helds) (s + n)) × (HeldRows (now profile) n) ⌝ }
-    ensures { λ r. ⌜ FirstFails (λ j. memoryFits (now (helds .entry)) memory (now (profile .entry)) s j) n r ⌝ }
+    ensures { λ r. ⌜ SomeFails (λ j. memoryFits (now (helds .entry)) memory (now (profile .entry)) s j) n r ⌝ }
 {
     let mut j = 0;
-    while j < n {
-        if takes(helds, memory, profile, s, j) {
-            j += 1;
-        } else {
+    let mut e = n;
+    while j < e {
+        if !takes(helds, memory, profile, s, j) {
             return j;
         }
+        e -= 1;
+        if !takes(helds, memory, profile, s, e) {
+            return e;
+        }
+        j += 1;
     }
     n
 }

@@ -5,12 +5,10 @@ use crate::disk;
 use crate::memory;
 use load::stream::Stream;
 ghost use mathlib.Core.Path.{_≡_};
-ghost use Prim.Native.Nat.{_≤_};
-ghost use lib.ListN.{take};
-ghost use Rattle.limits.specs.Bounds.{maxBookings};
+ghost use Prim.Native.Nat.{_≤_, max};
 ghost use Rattle.model.specs.Fit.{firstOf};
-ghost use Rattle.search.specs.Fit.{queryOf, fitsAt, answerOf};
-ghost use Rattle.search.specs.Search.{Walks, Clear, Tells};
+ghost use Rattle.search.specs.Fit.{answerOf};
+ghost use Rattle.search.specs.Search.{fits, testsOf, Walks, Clear, Tells};
 
 // A start to try, the round up to which its rounds are known to be free for the disk, and the round of the stream's own in
 // which memory refused a start before.
@@ -26,13 +24,20 @@ pub enum Step {
     Next(Candidate),
 }
 
+fn larger(a: usize, b: usize) -> usize
+    ensures { λ r. ⌜ r ≡ max a b ⌝ }
+{
+    if a < b { b } else { a }
+}
+
 // Tries a start of a window. The cheapest test comes first; the disk's rounds are looked at from the far end, so that the last
 // one that it cannot take gives the next start, and none is looked at twice.
 pub fn try_start(
     y: Stream,
     profile: &[u64],
-    xs: [Stream; 256],
-    count: usize,
+    shows: &[u64],
+    ends: &[u64],
+    losses: &[u64],
     opens: &[u64],
     reserves: &[u64],
     helds: &[u64],
@@ -41,11 +46,10 @@ pub fn try_start(
     last: usize,
     c: Candidate,
 ) -> Step
-    requires { ⌜ (count ≤ maxBookings)
-        × (Walks (queryOf y (now profile) (take count xs) (now opens) (now reserves) (now helds) disk memory) last)
+    requires { ⌜ (Walks y (now profile) (now shows) (now ends) (now losses) (now opens) (now reserves) (now helds) last)
         × (c .start ≤ last)
-        × (Clear (queryOf y (now profile) (take count xs) (now opens) (now reserves) (now helds) disk memory) (c .start) (c .clear)) ⌝ }
-    ensures { λ r. ⌜ Tells (queryOf y (now (profile .entry)) (take count xs) (now (opens .entry)) (now (reserves .entry)) (now (helds .entry)) disk memory) (c .start) r ⌝ }
+        × (Clear (testsOf y (now profile) (now shows) (now ends) (now opens) (now reserves) (now helds) disk memory) (c .start) (c .clear)) ⌝ }
+    ensures { λ r. ⌜ Tells (testsOf y (now (profile .entry)) (now (shows .entry)) (now (ends .entry)) (now (opens .entry)) (now (reserves .entry)) (now (helds .entry)) disk memory) (c .start) r ⌝ }
 {
     let start = c.start;
     let n = y.prefetch + y.rounds;
@@ -57,9 +61,9 @@ pub fn try_start(
             near,
         });
     }
-    let from = cabs::larger(start, c.clear);
+    let from = larger(start, c.clear);
     let end = start + n;
-    let free = disk::free_from(opens, reserves, disk, y.reserve, from, end);
+    let free = disk::free_from(losses, opens, reserves, disk, y.reserve, from, end);
     if from < free {
         return Step::Next(Candidate {
             start: free,
@@ -67,7 +71,7 @@ pub fn try_start(
             near: c.near,
         });
     }
-    let next = cabs::after_clashes(xs, count, y, start);
+    let next = cabs::after_clashes(shows, ends, y, start);
     if start < next {
         return Step::Next(Candidate {
             start: next,
@@ -75,7 +79,7 @@ pub fn try_start(
             near: c.near,
         });
     }
-    let over = memory::first_over(helds, memory, profile, start, n);
+    let over = memory::some_over(helds, memory, profile, start, n);
     if over < n {
         return Step::Next(Candidate {
             start: start + 1,
@@ -90,8 +94,9 @@ pub fn try_start(
 pub fn first_fit(
     y: Stream,
     profile: &[u64],
-    xs: [Stream; 256],
-    count: usize,
+    shows: &[u64],
+    ends: &[u64],
+    losses: &[u64],
     opens: &[u64],
     reserves: &[u64],
     helds: &[u64],
@@ -100,8 +105,8 @@ pub fn first_fit(
     first: usize,
     last: usize,
 ) -> Found
-    requires { ⌜ (count ≤ maxBookings) × (Walks (queryOf y (now profile) (take count xs) (now opens) (now reserves) (now helds) disk memory) last) ⌝ }
-    ensures { λ r. ⌜ r ≡ answerOf (firstOf (fitsAt (queryOf y (now (profile .entry)) (take count xs) (now (opens .entry)) (now (reserves .entry)) (now (helds .entry)) disk memory)) first last) ⌝ }
+    requires { ⌜ Walks y (now profile) (now shows) (now ends) (now losses) (now opens) (now reserves) (now helds) last ⌝ }
+    ensures { λ r. ⌜ r ≡ answerOf (firstOf (fits (testsOf y (now (profile .entry)) (now (shows .entry)) (now (ends .entry)) (now (opens .entry)) (now (reserves .entry)) (now (helds .entry)) disk memory)) first last) ⌝ }
 {
     let mut c = Candidate {
         start: first,
@@ -112,8 +117,9 @@ pub fn first_fit(
         let step = try_start(
             y,
             profile,
-            xs,
-            count,
+            shows,
+            ends,
+            losses,
             opens,
             reserves,
             helds,

@@ -1,44 +1,45 @@
--- `search::cabs::after_clashes` meets its contract. The invariant: the streams from i on decide. The measure is what is left of
--- the count. Assumes nothing.
+-- `search::cabs::after_clashes` meets its contract. The invariant: what the columns before i leave. The measure is what is left of
+-- the columns. Assumes nothing.
 use Prim.Native.Nat.{_-_, _≤_}
-use mathlib.Core.Path.{_≡_, sym, _∙_}
+use mathlib.Core.Path.{_≡_}
 use native.Mathlib.Omega.{arith}
 use borrow.Author.Needs.{needs}
-use lib.ListN.{take}
-use lib.Seq.{slice}
-use Rattle.load.specs.Stream.{noStream}
-use Rattle.search.specs.Search.{afterClashes}
-use Rattle.search.specs.FitLaws.{clashes-stop, clashes-next, clashes-end, ends-at}
+use lib.ListN.{length}
+use Rattle.search.specs.CabLaws.{After, after-none, after-next, after-all}
 use Rattle.search.proofs.cabs.after_clashes.Statement.{statement}
 use Rattle.search.proofs.cabs.after_clashes.Tie as tie
 
 abbrev Inv-loop : tie.InvT-loop
-Inv-loop count y s xs i₀ i = (i ≤ count) × (afterClashes (take count xs) y s ≡ afterClashes (slice i count xs) y s)
+Inv-loop shows ends y s from to next₀ i₀ next i = (i ≤ length shows) × (After shows ends y s i next)
 
 abbrev μ-loop : tie.MeasureT-loop
-μ-loop count y s xs i₀ i = count - i
+μ-loop shows ends y s from to next₀ i₀ next i = length shows - i
+
+add-from : tie.Need-add-from Inv-loop μ-loop
+add-from c = search needs
+
+add-to : tie.Need-add-to Inv-loop μ-loop
+add-to c = search needs
 
 loop-holds : tie.Need-loop-holds Inv-loop μ-loop
-loop-holds c = search needs
+loop-holds c =
+    let a = c .before .before .before .args in
+    (omega arith, after-none (a .shows .now) (a .ends .now) (a .y) (a .s))
 
-mul-x : tie.Need-mul-x Inv-loop μ-loop
-mul-x c = search needs
+mul-after-clash : tie.Need-mul-after-clash Inv-loop μ-loop
+mul-after-clash c = search needs
 
-array-copy-out-x : tie.Need-array-copy-out-x Inv-loop μ-loop
-array-copy-out-x c = search needs
+shared-slice-read-after-clash : tie.Need-shared-slice-read-after-clash Inv-loop μ-loop
+shared-slice-read-after-clash c = search needs
+
+mul-after-clash-2 : tie.Need-mul-after-clash-2 Inv-loop μ-loop
+mul-after-clash-2 c = search needs
+
+shared-slice-read-after-clash-2 : tie.Need-shared-slice-read-after-clash-2 Inv-loop μ-loop
+shared-slice-read-after-clash-2 c = search needs
 
 after-clash-requires : tie.Need-after-clash-requires Inv-loop μ-loop
-after-clash-requires c κs =
-    let start = c .before .before .before in
-    let a = start .args in
-    (ends-at (a .t1) (a .count) (c .before .before .loop .i) (start .pre .1) (omega arith) (omega arith), start .pre .2)
-
-returns : tie.Need-returns Inv-loop μ-loop
-returns c =
-    let a = c .before .before .before .before .before .args in
-    let l = c .before .before .before .before .loop in
-    let e = c .before .after-clash .ensures in
-    e ∙ clashes-stop (a .t1) (a .y) noStream (a .s) (l .i) (a .count) (omega arith) (omega arith) (omega (arith, e)) ∙ sym (l .inv .1)
+after-clash-requires c κs = search needs
 
 add-i : tie.Need-add-i Inv-loop μ-loop
 add-i c = search needs
@@ -48,16 +49,19 @@ loop-less c = search needs
 
 loop-again : tie.Need-loop-again Inv-loop μ-loop
 loop-again c =
-    let a = c .before .before .before .before .before .args in
+    let a = c .before .before .before .before .before .before .before .before .args in
     let l = c .before .before .before .before .loop in
-    let e = c .before .after-clash .ensures in
-    (omega arith, l .inv .1 ∙ clashes-next (a .t1) (a .y) noStream (a .s) (l .i) (a .count) (omega arith) (omega arith) (omega (arith, e)))
+    (omega arith, rw (c .after-clash .ensures) (after-next (a .shows .now) (a .ends .now) (a .y) (a .s) (l .i) (l .next) (omega arith) (l .inv .1)))
 
-returns-2 : tie.Need-returns-2 Inv-loop μ-loop
-returns-2 c =
-    let a = c .before .before .args in
-    let l = c .before .loop in
-    sym (l .inv .1 ∙ clashes-end (a .t1) (a .y) (a .s) (l .i) (a .count) (omega arith))
+sub-result : tie.Need-sub-result Inv-loop μ-loop
+sub-result c = omega (arith, c .before .before .loop .inv .1 .later)
+
+returns : tie.Need-returns Inv-loop μ-loop
+returns c =
+    let a = c .before .before .before .before .before .before .args in
+    let l = c .before .before .loop in
+    let all : l .i ≡ length (a .shows .now) = omega arith in
+    after-all (a .shows .now) (a .ends .now) (a .y) (a .s) (l .next) (rw all at (l .inv .1))
 
 pub after-clashes-spec : {M : Type 1} → statement M
 after-clashes-spec =
@@ -65,12 +69,16 @@ after-clashes-spec =
     (tie.spec
     Inv-loop
     μ-loop
+    add-from
+    add-to
     loop-holds
-    mul-x
-    array-copy-out-x
+    mul-after-clash
+    shared-slice-read-after-clash
+    mul-after-clash-2
+    shared-slice-read-after-clash-2
     after-clash-requires
-    returns
     add-i
     loop-less
     loop-again
-    returns-2)
+    sub-result
+    returns)

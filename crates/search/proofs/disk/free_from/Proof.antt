@@ -11,10 +11,10 @@ use Rattle.search.proofs.disk.free_from.Statement.{statement}
 use Rattle.search.proofs.disk.free_from.Tie as tie
 
 abbrev Inv-loop : tie.InvT-loop
-Inv-loop opens reserves disk b a e r₀ r = (a ≤ r) × (r ≤ e) × ((t : ℕ) → r ≤ t → t < e → diskFits opens reserves disk b t ≡ true)
+Inv-loop losses opens reserves disk b a e r₀ r = (a ≤ r) × (r ≤ e) × ((t : ℕ) → r ≤ t → t < e → diskFits opens reserves disk b t ≡ true)
 
 abbrev μ-loop : tie.MeasureT-loop
-μ-loop opens reserves disk b a e r₀ r = r - a
+μ-loop losses opens reserves disk b a e r₀ r = r - a
 
 loop-holds : tie.Need-loop-holds Inv-loop μ-loop
 loop-holds c = (search needs, search needs, λ t h k. absurd (omega arith))
@@ -36,9 +36,10 @@ shared-slice-read-takes-2 c = search needs
 
 takes-requires : tie.Need-takes-requires Inv-loop μ-loop
 takes-requires c κs =
-    let rows = c .before .before .before .before .before .before .pre .0 in
+    let start = c .before .before .before .before .before .before .before in
+    let rows = start .pre .1 in
     let t = c .before .before .before .loop .r - 1 in
-    (rows .opens-small t (omega arith), rows .reserves-small t (omega arith), omega arith)
+    (start .pre .0, rows .opens-small t (omega arith), rows .reserves-small t (omega arith), omega arith)
 
 loop-less : tie.Need-loop-less Inv-loop μ-loop
 loop-less c = search needs
@@ -47,7 +48,7 @@ loop-again : tie.Need-loop-again Inv-loop μ-loop
 unfolding diskFits
 loop-again c =
     let l = c .before .before .before .before .before .loop in
-    let a = c .before .before .before .before .before .before .before .before .args in (
+    let a = c .before .before .before .before .before .before .before .before .before .args in (
       omega arith,
       omega arith,
       pass-more (diskFits (a .opens .now) (a .reserves .now) (a .disk) (a .b)) (l .r) (a .e) (l .inv .2) (sym (c .before .takes .ensures) ∙ c .if1 .taken),
