@@ -14,5 +14,7 @@ pub mod Laws
 pub mod CarryLaws
 pub mod Minimality
 pub mod ReserveLaws
+pub mod Pace
 pub mod SheetLaws
+pub mod Parts
 pub mod Tests

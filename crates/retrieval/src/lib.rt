@@ -1,24 +1,38 @@
 // A film's just-in-time schedule, where its sizes stand in the file: whether there is one, its peak, what it holds, one round.
-// Each is one pass backward over the sizes, with no buffer. The film's n sizes stand at offset `at`, p is its pre-fetch rounds
+// Each is one pass over the sizes, with no buffer. The film's n sizes stand at offset `at`, p is its pre-fetch rounds
 // and b its reserve in bytes per round; rounds are counted from its start.
 ghost use mathlib.Core.Path.{_≡_};
-ghost use Prim.Native.Nat.{_+_, _-_, _≤_, _<_, min, max};
-ghost use lib.ListN.{getD, drop};
+ghost use Prim.Native.Nat.{_+_, _-_, _*_, _^_, _≤_, _<_, min, max};
+ghost use lib.ListN.{length, getD, drop};
 ghost use Rattle.limits.specs.Bounds.{maxSize};
-ghost use Rattle.films.specs.Sizes.{Stored};
+ghost use Rattle.laws.specs.Sums.{sum};
+ghost use Rattle.films.specs.Sizes.{sizes, Stored};
 ghost use Rattle.retrieval.specs.Schedule.{peak};
 ghost use Rattle.retrieval.specs.JustInTime.{justInTime, existsBy};
 ghost use Rattle.retrieval.specs.Carry.{carry};
+ghost use Rattle.retrieval.specs.Pace.{totalIf};
 ghost use Rattle.retrieval.specs.Stored.{sendsAt, InRange, maxHeld};
-ghost use Rattle.retrieval.specs.Sheet.{plus, heldIn, Adds};
+ghost use Rattle.retrieval.specs.Sheet.{plus, Room, heldIn, waiting, Adds};
+ghost use Rattle.retrieval.specs.SheetLaws.{plusFrom};
 ghost use Rattle.retrieval.specs.Round.{roundOf};
 use films::words::size_at;
+use std::num::wrapping_add_u64;
+use std::num::wrapping_sub_u64;
+
+// The sign's bit of a word.
+const SIGN: u64 = 9223372036854775808;
 
 // What one round of a film reads, sends and holds, in bytes.
 pub struct Round {
     pub read: u64,
     pub send: u64,
     pub held: u64,
+}
+
+// A film's total in bytes, where a schedule exists.
+pub enum Total {
+    Bytes(u64),
+    NoSchedule,
 }
 
 // a less b, and 0 where b is more.
@@ -53,26 +67,74 @@ pub fn send_at(file: &[u8], at: usize, n: usize, p: usize, t: usize) -> u64
     size_at(file, at + 4 * (t - p))
 }
 
+// The carry before a round that sends x, where c is the carry after it: x + c less b. The test is one of signed numbers, in
+// words that wrap, so that from c to the result there are a subtraction and a move only.
+pub fn carry_before(x: u64, c: u64, b: u64) -> u64
+    requires { ⌜ (x + c < 2 ^ 63) × (b < 2 ^ 63) ⌝ }
+    ensures { λ r. ⌜ r ≡ (x + c) - b ⌝ }
+{
+    let d = wrapping_sub_u64(b, x);
+    if wrapping_add_u64(d, SIGN) < wrapping_add_u64(c, SIGN) {
+        wrapping_sub_u64(c, d)
+    } else {
+        0
+    }
+}
+
+// The carry of the film's sizes from i on.
+fn carry_shown(file: &[u8], at: usize, n: usize, b: u64, i: usize) -> u64
+    requires { ⌜ (InRange (now file) at n 0 b) × (i ≤ n) ⌝ }
+    ensures { λ r. ⌜ (r ≡ carry b (drop i (sizes (now (file .entry)) at n))) × (r ≤ maxHeld) ⌝ }
+{
+    let mut c: u64 = 0;
+    let mut k = n;
+    while i < k {
+        k -= 1;
+        c = carry_before(size_at(file, at + 4 * k), c, b);
+    }
+    c
+}
+
 // The carry of the film's rounds from t on: what they leave to be read before round t.
 fn carry_from(file: &[u8], at: usize, n: usize, p: usize, b: u64, t: usize) -> u64
     requires { ⌜ (InRange (now file) at n p b) × (t ≤ p + n) ⌝ }
     ensures { λ r. ⌜ (r ≡ carry b (drop t (sendsAt (now (file .entry)) at n p))) × (r ≤ maxHeld) ⌝ }
 {
-    let mut c: u64 = 0;
-    let mut k = p + n;
-    while t < k {
-        k -= 1;
-        c = less(send_at(file, at, n, p, k) + c, b);
+    if p <= t {
+        return carry_shown(file, at, n, b, t - p);
     }
-    c
+    less(carry_shown(file, at, n, b, 0), ((p - t) as u64) * b)
 }
 
-// Does a schedule exist? It does exactly if nothing is left to be read before round 0.
+// The film's total in bytes, if a schedule exists: if b for each round up to a size's is at least the sum of the sizes up to it.
+pub fn film_total(file: &[u8], at: usize, n: usize, p: usize, b: u64) -> Total
+    requires { ⌜ InRange (now file) at n p b ⌝ }
+    ensures { λ r. ⌜ r ≡ totalIf (existsBy b (sendsAt (now (file .entry)) at n p)) (sum (sizes (now (file .entry)) at n)) ⌝ }
+{
+    let mut sent: u64 = 0;
+    let mut most = (p as u64) * b;
+    let mut i = 0;
+    while i < n {
+        sent += size_at(file, at + 4 * i);
+        most += b;
+        if most < sent {
+            return Total::NoSchedule;
+        }
+        i += 1;
+    }
+    Total::Bytes(sent)
+}
+
+// Does a schedule exist?
 pub fn exists(file: &[u8], at: usize, n: usize, p: usize, b: u64) -> bool
     requires { ⌜ InRange (now file) at n p b ⌝ }
     ensures { λ r. ⌜ r ≡ existsBy b (sendsAt (now (file .entry)) at n p) ⌝ }
 {
-    carry_from(file, at, n, p, b, 0) == 0
+    let total = film_total(file, at, n, p, b);
+    match total {
+        Total::Bytes(_) => true,
+        Total::NoSchedule => false,
+    }
 }
 
 // The peak: the most that the film holds in a round, in bytes. The pre-fetch rounds hold no more than the round after them.
@@ -85,11 +147,67 @@ pub fn peak(file: &[u8], at: usize, n: usize, p: usize, b: u64) -> u64
     let mut i = n;
     while 0 < i {
         i -= 1;
-        let h = size_at(file, at + 4 * i) + c;
+        let x = size_at(file, at + 4 * i);
+        let h = x + c;
         most = larger(most, h);
-        c = less(h, b);
+        c = carry_before(x, c, b);
     }
     most
+}
+
+// The first of the rounds a to e - 1 that shows; e if none does.
+fn first_shown(p: usize, a: usize, e: usize) -> usize
+    requires { ⌜ a ≤ e ⌝ }
+    ensures { λ r. ⌜ r ≡ max a (min p e) ⌝ }
+{
+    if e <= p {
+        return e;
+    }
+    if a < p { p } else { a }
+}
+
+// `add_held` of the rounds from m on, which show.
+fn add_shown(
+    part: &mut [u64],
+    file: &[u8],
+    at: usize,
+    n: usize,
+    p: usize,
+    b: u64,
+    a: usize,
+    m: usize,
+    e: usize,
+    c: u64,
+) -> u64
+    requires { ⌜ (Adds (now part) (now file) at n p b a e c) × (m ≡ max a (min p e)) ⌝ }
+    ensures { λ r. ⌜ (now (part .exit) ≡ plusFrom (m - a) (now (part .entry)) (heldIn (now (file .entry)) at n p b a e)) × (r ≡ carry b (drop m (sendsAt (now (file .entry)) at n p))) ⌝ }
+{
+    let mut left = c;
+    let mut k = e;
+    while m < k {
+        k -= 1;
+        let x = size_at(file, at + 4 * (k - p));
+        let h = x + left;
+        part[k - a] = part[k - a] + h;
+        left = carry_before(x, left, b);
+    }
+    left
+}
+
+// Adds what m rounds that send nothing hold to the first m places of a lent list, where c is the carry of the rounds after
+// them. Gives the carry before them.
+fn add_waiting(part: &mut [u64], m: usize, b: u64, c: u64) -> u64
+    requires { ⌜ (m ≤ length (now part)) × Room (now part) (waiting b c m) ⌝ }
+    ensures { λ r. ⌜ (now (part .exit) ≡ plus (now (part .entry)) (waiting b c m)) × (r ≡ c - m * b) ⌝ }
+{
+    let mut left = c;
+    let mut k = m;
+    while 0 < k {
+        k -= 1;
+        part[k] = part[k] + left;
+        left = less(left, b);
+    }
+    left
 }
 
 // Adds what the film holds in its rounds a to e - 1 to the first places of a lent list, where c is the carry of its rounds from
@@ -109,15 +227,9 @@ pub fn add_held(
     requires { ⌜ Adds (now part) (now file) at n p b a e c ⌝ }
     ensures { λ r. ⌜ (now (part .exit) ≡ plus (now (part .entry)) (heldIn (now (file .entry)) at n p b a e)) × (r ≡ carry b (drop a (sendsAt (now (file .entry)) at n p))) ⌝ }
 {
-    let mut left = c;
-    let mut k = e;
-    while a < k {
-        k -= 1;
-        let h = send_at(file, at, n, p, k) + left;
-        part[k - a] = part[k - a] + h;
-        left = less(h, b);
-    }
-    left
+    let m = first_shown(p, a, e);
+    let left = add_shown(part, file, at, n, p, b, a, m, e, c);
+    add_waiting(part, m - a, b, left)
 }
 
 // What the film reads, sends and holds in round t.

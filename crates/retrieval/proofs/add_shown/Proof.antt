@@ -1,0 +1,174 @@
+-- `retrieval::add_shown` meets its contract. The invariant: what the film holds from its round k on has been added, and left
+-- is the carry of its rounds from k on. The measure is k. Assumes nothing.
+use mathlib.Core.Path.{_≡_, sym, _∙_}
+use mathlib.Core.List.{List}
+use Prim.Native.Nat.{ℕ, _≤_, _-_, _+_}
+use native.Mathlib.Omega.{arith}
+use borrow.Author.Needs.{needs}
+use lib.ListN.{length, drop, getD, length-set}
+use Rattle.retrieval.specs.Carry.{carry}
+use Rattle.retrieval.specs.Stored.{sendsAt, length-sendsAt, sends-shown, turn-carry}
+use Rattle.retrieval.specs.Sheet.{heldIn}
+use Rattle.retrieval.specs.SheetLaws.{plusFrom, ontoFrom-none, turn-read, turn-write, length-heldIn, place-within, window-held}
+use Rattle.retrieval.proofs.add_shown.Statement.{statement}
+use Rattle.retrieval.proofs.add_shown.Tie as tie
+
+record Added (part₀ file : List ℕ) (at n p b a m e : ℕ) (part : List ℕ) (left k : ℕ) : Type 0 where
+  from : m ≤ k
+  within : k ≤ e
+  carried : left ≡ carry b (drop k (sendsAt file at n p))
+  added : part ≡ plusFrom (k - a) part₀ (heldIn file at n p b a e)
+  same : length part ≡ length part₀
+
+abbrev Inv-loop : tie.InvT-loop
+Inv-loop part₀ file at n p b a m e c left₀ k₀ part left k = Added part₀ file at n p b a m e part left k
+
+abbrev μ-loop : tie.MeasureT-loop
+μ-loop part₀ file at n p b a m e c left₀ k₀ part left k = k
+
+loop-holds : tie.Need-loop-holds Inv-loop μ-loop
+loop-holds c =
+    let start = c .before .before in
+    let a = start .args in
+    record {
+      from = omega arith;
+      within = omega arith;
+      carried = start .pre .0 .carried;
+      added =
+          sym (ontoFrom-none (a .e - a .a) (λ x h. x + h) (a .part .now) (heldIn (a .file .now) (a .at) (a .n) (a .p) (a .b) (a .a) (a .e))
+          (omega (arith, length-heldIn (a .file .now) (a .at) (a .n) (a .p) (a .b) (a .a) (a .e) (omega arith))));
+      same = omega arith;
+    }
+
+sub-k : tie.Need-sub-k Inv-loop μ-loop
+sub-k c = search needs
+
+sub-size-at : tie.Need-sub-size-at Inv-loop μ-loop
+sub-size-at c = search needs
+
+mul-size-at : tie.Need-mul-size-at Inv-loop μ-loop
+mul-size-at c = search needs
+
+add-size-at : tie.Need-add-size-at Inv-loop μ-loop
+add-size-at c = search needs
+
+size-at-requires : tie.Need-size-at-requires Inv-loop μ-loop
+size-at-requires c κs = search needs
+
+add-h : tie.Need-add-h Inv-loop μ-loop
+add-h c =
+    let start = c .before .before .before .before .before in
+    let a = start .args in
+    let l = c .before .before .loop in
+    let x = c .size-at in
+    let s = a .file .now in
+    let ex = x .ensures ∙ sends-shown s (a .at) (a .n) (a .p) (l .k - 1) (omega arith) (omega arith) in
+    let held = window-held s (a .at) (a .n) (a .p) (a .b) (a .a) (a .e) (l .k) (l .left) (x .result) (omega arith) (omega arith) (omega arith) (l .inv .carried) ex in
+    omega (arith, start .pre .0 .room ((l .k - a .a) - 1))
+
+sub-part : tie.Need-sub-part Inv-loop μ-loop
+sub-part c = search needs
+
+mul-part : tie.Need-mul-part Inv-loop μ-loop
+mul-part c = search needs
+
+slice-read-part : tie.Need-slice-read-part Inv-loop μ-loop
+slice-read-part c = search needs
+
+add-part : tie.Need-add-part Inv-loop μ-loop
+add-part c =
+    let start = c .before .before .before .before .before .before in
+    let a = start .args in
+    let l = c .before .before .before .loop in
+    let x = c .before .size-at in
+    let s = a .file .now in
+    let ex = x .ensures ∙ sends-shown s (a .at) (a .n) (a .p) (l .k - 1) (omega arith) (omega arith) in
+    let held = window-held s (a .at) (a .n) (a .p) (a .b) (a .a) (a .e) (l .k) (l .left) (x .result) (omega arith) (omega arith) (omega arith) (l .inv .carried) ex in
+    let hs = heldIn s (a .at) (a .n) (a .p) (a .b) (a .a) (a .e) in
+    let found = turn-read (l .k - a .a) (λ x h. x + h) (a .part .now) hs (l .part) (omega arith) (l .inv .added) in
+    let place : (l .k - 1) - a .a ≡ (l .k - a .a) - 1 = omega arith in
+    rw place (omega (arith, start .pre .0 .room ((l .k - a .a) - 1)))
+
+sub-part-2 : tie.Need-sub-part-2 Inv-loop μ-loop
+sub-part-2 c = search needs
+
+mul-part-2 : tie.Need-mul-part-2 Inv-loop μ-loop
+mul-part-2 c = search needs
+
+slice-write-part : tie.Need-slice-write-part Inv-loop μ-loop
+slice-write-part c = search needs
+
+carry-before-requires : tie.Need-carry-before-requires Inv-loop μ-loop
+carry-before-requires c κs =
+    let start = c .before .before .before .before .before .before in
+    let a = start .args in
+    let l = c .before .before .before .loop in
+    let x = c .before .size-at in
+    let s = a .file .now in
+    let ex = x .ensures ∙ sends-shown s (a .at) (a .n) (a .p) (l .k - 1) (omega arith) (omega arith) in
+    let held = window-held s (a .at) (a .n) (a .p) (a .b) (a .a) (a .e) (l .k) (l .left) (x .result) (omega arith) (omega arith) (omega arith) (l .inv .carried) ex in
+    (omega (arith, start .pre .0 .room ((l .k - a .a) - 1)), omega arith)
+
+loop-less : tie.Need-loop-less Inv-loop μ-loop
+loop-less c = search needs
+
+loop-again : tie.Need-loop-again Inv-loop μ-loop
+loop-again c =
+    let start = c .before .before .before .before .before .before .before in
+    let a = start .args in
+    let l = c .before .before .before .before .loop in
+    let x = c .before .before .size-at in
+    let s = a .file .now in
+    let ex = x .ensures ∙ sends-shown s (a .at) (a .n) (a .p) (l .k - 1) (omega arith) (omega arith) in
+    let held = window-held s (a .at) (a .n) (a .p) (a .b) (a .a) (a .e) (l .k) (l .left) (x .result) (omega arith) (omega arith) (omega arith) (l .inv .carried) ex in
+    let xs = sendsAt s (a .at) (a .n) (a .p) in
+    let hs = heldIn s (a .at) (a .n) (a .p) (a .b) (a .a) (a .e) in
+    let found = turn-read (l .k - a .a) (λ x h. x + h) (a .part .now) hs (l .part) (omega arith) (l .inv .added) in
+    let place : (l .k - 1) - a .a ≡ (l .k - a .a) - 1 = omega arith in
+    record {
+      from = omega arith;
+      within = omega arith;
+      carried =
+          c .carry-before .ensures
+          ∙ turn-carry (a .b) (l .k) (l .left) (x .result) xs (omega arith) (omega (arith, length-sendsAt s (a .at) (a .n) (a .p))) (l .inv .carried) ex;
+      added =
+          rw place
+          (turn-write (l .k - a .a) (getD (l .part) ((l .k - a .a) - 1) 0 + (x .result + l .left)) (λ x h. x + h) (a .part .now) hs (l .part)
+          (omega arith) (place-within s (a .at) (a .n) (a .p) (a .b) (a .a) (a .e) (l .k) (l .inv .within) (start .pre .0 .rounds)) (l .inv .added) (omega arith));
+      same = simp length-set (omega arith);
+    }
+
+same-length : tie.Need-same-length Inv-loop μ-loop
+same-length c = search needs
+
+returns : tie.Need-returns Inv-loop μ-loop
+returns c =
+    let l = c .before .loop in
+    let e : l .k ≡ c .before .before .before .before .args .m = omega arith in
+    (rw e at (l .inv .added), rw e at (l .inv .carried))
+
+pub add-shown-spec : {M : Type 1} → statement M
+add-shown-spec =
+    tie.close
+    (tie.spec
+    Inv-loop
+    μ-loop
+    loop-holds
+    sub-k
+    sub-size-at
+    mul-size-at
+    add-size-at
+    size-at-requires
+    add-h
+    sub-part
+    mul-part
+    slice-read-part
+    add-part
+    sub-part-2
+    mul-part-2
+    slice-write-part
+    carry-before-requires
+    loop-less
+    loop-again
+    same-length
+    returns)
