@@ -4,5 +4,6 @@ pub mod Streams
 pub mod Basic
 pub mod Disk
 pub mod Lists
+pub mod Columns
 pub mod StreamLaws
 pub mod BasicLaws

@@ -1,44 +1,74 @@
 // No cab shows two films: by pairs of streams.
+use crate::columns::columns_of;
 use crate::stream::Stream;
 use limits::bounds::MAX_BOOKINGS;
 ghost use mathlib.Core.Path.{_≡_};
 ghost use mathlib.Core.Bool.{not};
-ghost use Prim.Native.Nat.{_+_, _≤_, _<_};
+ghost use Prim.Native.Nat.{_≤_};
 ghost use lib.ListN.{take};
-ghost use lib.Seq.{slice};
 ghost use Rattle.limits.specs.Bounds.{maxBookings};
 ghost use Rattle.laws.specs.Tests.{all};
-ghost use Rattle.load.specs.Stream.{clashes, pairsClear};
+ghost use Rattle.load.specs.Stream.{pairsClear};
 ghost use Rattle.load.specs.Basic.{Bounded, EachOf};
+ghost use Rattle.load.specs.Columns.{rows, rowOf, CabColumns, rowsClash, rowsClear};
 
-// Whether the two have no cab in common or show in no common round. Round s+p+n is free.
-fn clear_pair(x: Stream, y: Stream) -> bool
-    requires { ⌜ Bounded x × Bounded y ⌝ }
-    ensures { λ r. ⌜ r ≡ not (clashes x y) ⌝ }
+// What a stream takes of the cabs: from round `shows` to the one before `end`.
+struct Taken {
+    cabs: u64,
+    shows: u32,
+    end: u32,
+}
+
+// Whether the two have no cab in common or show in no common round.
+fn clear_pair(x: Taken, y: Taken) -> bool
+    ensures { λ r. ⌜ r ≡ not (rowsClash (rowOf x) (rowOf y)) ⌝ }
 {
     if x.cabs & y.cabs == 0 {
         return true;
     }
-    let x_shows = x.start + x.prefetch;
-    let y_shows = y.start + y.prefetch;
-    if y_shows + y.rounds <= x_shows {
+    if y.end <= x.shows {
         return true;
     }
-    x_shows + x.rounds <= y_shows
+    x.end <= y.shows
 }
 
-// Whether x clashes with none of those from place `from` to `count`.
-fn clear_of(x: Stream, xs: [Stream; MAX_BOOKINGS], from: usize, count: usize) -> bool
-    requires { ⌜ (from ≤ count) × (count ≤ maxBookings) × Bounded x × EachOf Bounded count xs ⌝ }
-    ensures { λ r. ⌜ r ≡ all (λ y. not (clashes x y)) (slice from count xs) ⌝ }
+// Whether x clashes with none of the list. Sets of cabs are mostly apart, so the rounds are seldom read.
+fn clear_of(x: Taken, cabs: &[u64], shows: &[u32], ends: &[u32]) -> bool
+    requires { ⌜ CabColumns (now cabs) (now shows) (now ends) ⌝ }
+    ensures { λ r. ⌜ r ≡ all (λ y. not (rowsClash (rowOf x) y)) (rows (now (cabs .entry)) (now (shows .entry)) (now (ends .entry))) ⌝ }
 {
-    let mut i = from;
-    while i < count {
-        let y = xs[i];
+    let mut i = 0;
+    while i < cabs.len() {
+        let y = Taken {
+            cabs: cabs[i],
+            shows: shows[i],
+            end: ends[i],
+        };
         if !clear_pair(x, y) {
             return false;
         }
         i += 1;
+    }
+    true
+}
+
+// Whether no two of the list clash.
+fn all_clear(cabs: &[u64], shows: &[u32], ends: &[u32]) -> bool
+    requires { ⌜ CabColumns (now cabs) (now shows) (now ends) ⌝ }
+    ensures { λ r. ⌜ r ≡ rowsClear (rows (now (cabs .entry)) (now (shows .entry)) (now (ends .entry))) ⌝ }
+{
+    let mut i = 0;
+    while i < cabs.len() {
+        let x = Taken {
+            cabs: cabs[i],
+            shows: shows[i],
+            end: ends[i],
+        };
+        let next = i + 1;
+        if !clear_of(x, &cabs[next..], &shows[next..], &ends[next..]) {
+            return false;
+        }
+        i = next;
     }
     true
 }
@@ -48,13 +78,9 @@ pub fn pairs_clear(xs: [Stream; MAX_BOOKINGS], count: usize) -> bool
     requires { ⌜ (count ≤ maxBookings) × EachOf Bounded count xs ⌝ }
     ensures { λ r. ⌜ r ≡ pairsClear (take count xs) ⌝ }
 {
-    let mut i = 0;
-    while i < count {
-        let x = xs[i];
-        if !clear_of(x, xs, i + 1, count) {
-            return false;
-        }
-        i += 1;
-    }
-    true
+    let c = columns_of(xs, count);
+    let cabs = c.cabs;
+    let shows = c.shows;
+    let ends = c.ends;
+    all_clear(&cabs[..count], &shows[..count], &ends[..count])
 }

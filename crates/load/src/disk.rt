@@ -1,14 +1,17 @@
 // The disk's side of a round.
+use crate::columns::columns_of;
 use crate::stream::Stream;
 use limits::bounds::MAX_BOOKINGS;
 ghost use mathlib.Core.Path.{_≡_};
 ghost use mathlib.Core.Bool.{cond};
-ghost use Prim.Native.Nat.{_+_, _*_, _≤_, _<_};
+ghost use Prim.Native.Nat.{_≤_};
 ghost use lib.ListN.{take};
-ghost use Rattle.limits.specs.Bounds.{maxBookings, maxReserve};
-ghost use Rattle.load.specs.Stream.{openIn, openCount, reservedIn};
+ghost use Rattle.limits.specs.Bounds.{maxBookings};
+ghost use Rattle.laws.specs.Tests.{all};
+ghost use Rattle.load.specs.Stream.{openIn};
 ghost use Rattle.load.specs.Basic.{Bounded, EachOf};
-ghost use Rattle.load.specs.Disk.{diskKept, startsKept};
+ghost use Rattle.load.specs.Disk.{startsKept};
+ghost use Rattle.load.specs.Columns.{rows, DiskColumns, openFrom, openRows, reserveRows, rowsKept};
 
 // Whether the stream is open in round t: rounds s to s+p+n-1.
 pub fn open_in(x: Stream, t: usize) -> bool
@@ -26,65 +29,64 @@ pub fn open_in(x: Stream, t: usize) -> bool
 
 // What a round takes of the disk: films open, and the sum of their reserves in bytes.
 struct Demand {
-    open: u64,
-    reserve: u64,
+    open: u32,
+    reserve: u32,
 }
 
-// The demand with the stream's added, where it is open in round t.
-fn demanded(d: Demand, x: Stream, t: usize) -> Demand
-    requires { ⌜ (d .open ≤ maxBookings) × (d .reserve ≤ maxReserve * maxBookings) × (x .reserve ≤ maxReserve) ⌝ }
-    ensures { λ r. ⌜ (r .open ≡ d .open + cond (openIn t x) 1 0) × (r .reserve ≡ d .reserve + cond (openIn t x) (x .reserve) 0) ⌝ }
+// 1 where a film that is open from `start` to the round before `end` is so in round t, else 0. Both tests are made and no
+// branch is taken on them, so that the compiler makes code for several films at once.
+fn open_at(start: u32, end: u32, t: u32) -> u32
+    ensures { λ r. ⌜ r ≡ cond (openFrom start end t) 1 0 ⌝ }
 {
-    if open_in(x, t) {
-        Demand {
-            open: d.open + 1,
-            reserve: d.reserve + x.reserve,
-        }
-    } else {
-        d
-    }
+    if (start <= t) & (t < end) { 1 } else { 0 }
 }
 
 // The demand of round t.
-fn demand_in(xs: [Stream; MAX_BOOKINGS], count: usize, t: usize) -> Demand
-    requires { ⌜ (count ≤ maxBookings) × EachOf Bounded count xs ⌝ }
-    ensures { λ r. ⌜ (r .open ≡ openCount t (take count xs)) × (r .reserve ≡ reservedIn t (take count xs)) × (r .open ≤ count) × (r .reserve ≤ maxReserve * count) ⌝ }
+fn demand_in(starts: &[u32], ends: &[u32], reserves: &[u32], t: u32) -> Demand
+    requires { ⌜ DiskColumns (now starts) (now ends) (now reserves) ⌝ }
+    ensures { λ r. ⌜ (r .open ≡ openRows t (rows (now (starts .entry)) (now (ends .entry)) (now (reserves .entry)))) × (r .reserve ≡ reserveRows t (rows (now (starts .entry)) (now (ends .entry)) (now (reserves .entry)))) × (r .open ≤ maxBookings) ⌝ }
 {
-    let mut d = Demand {
-        open: 0,
-        reserve: 0,
-    };
+    let mut films = 0;
+    let mut reserve = 0;
     let mut i = 0;
-    while i < count {
-        let x = xs[i];
-        d = demanded(d, x, t);
+    while i < starts.len() {
+        let here = open_at(starts[i], ends[i], t);
+        films += here;
+        reserve += here * reserves[i];
         i += 1;
     }
-    d
+    Demand {
+        open: films,
+        reserve,
+    }
 }
 
-// Whether round t keeps the disk limit: reserves + loss(films open) ≤ D.
-fn disk_at(xs: [Stream; MAX_BOOKINGS], count: usize, t: usize, disk: u64) -> bool
-    requires { ⌜ (count ≤ maxBookings) × EachOf Bounded count xs ⌝ }
-    ensures { λ r. ⌜ r ≡ diskKept disk (take count xs) t ⌝ }
+// Whether each round in which a film starts keeps the disk limit: reserves + loss(films open) ≤ D.
+fn kept_at_starts(starts: &[u32], ends: &[u32], reserves: &[u32], disk: u64) -> bool
+    requires { ⌜ DiskColumns (now starts) (now ends) (now reserves) ⌝ }
+    ensures { λ r. ⌜ r ≡ all (rowsKept disk (rows (now (starts .entry)) (now (ends .entry)) (now (reserves .entry)))) (now (starts .entry)) ⌝ }
 {
-    let d = demand_in(xs, count, t);
-    let lost = loss::loss(d.open);
-    d.reserve + lost <= disk
-}
-
-// Whether each round does in which one of the first `count` starts.
-pub fn disk_at_starts(xs: [Stream; MAX_BOOKINGS], count: usize, disk: u64) -> bool
-    requires { ⌜ (count ≤ maxBookings) × EachOf Bounded count xs ⌝ }
-    ensures { λ r. ⌜ r ≡ startsKept disk (take count xs) (take count xs) ⌝ }
-{
+    let losses = loss::table();
     let mut i = 0;
-    while i < count {
-        let x = xs[i];
-        if !disk_at(xs, count, x.start, disk) {
+    while i < starts.len() {
+        let d = demand_in(starts, ends, reserves, starts[i]);
+        let open = d.open as usize;
+        if disk < d.reserve as u64 + losses[open] {
             return false;
         }
         i += 1;
     }
     true
+}
+
+// Whether each round keeps the disk limit in which one of the first `count` starts.
+pub fn disk_at_starts(xs: [Stream; MAX_BOOKINGS], count: usize, disk: u64) -> bool
+    requires { ⌜ (count ≤ maxBookings) × EachOf Bounded count xs ⌝ }
+    ensures { λ r. ⌜ r ≡ startsKept disk (take count xs) (take count xs) ⌝ }
+{
+    let c = columns_of(xs, count);
+    let starts = c.starts;
+    let ends = c.ends;
+    let reserves = c.reserves;
+    kept_at_starts(&starts[..count], &ends[..count], &reserves[..count], disk)
 }

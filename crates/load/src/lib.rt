@@ -1,5 +1,6 @@
 // The load of a day's rounds, and whether a list of bookings is sound.
 pub mod cabs;
+mod columns;
 pub mod disk;
 pub mod names;
 pub mod records;

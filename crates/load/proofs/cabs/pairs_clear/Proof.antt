@@ -1,77 +1,93 @@
--- `load::cabs::pairs_clear` meets its contract. The invariant: the answer is that of the streams from i on. The measure is what
--- is left of them. Assumes nothing.
-use mathlib.Core.Path.{_≡_, sym, _∙_}
-use Prim.Native.Nat.{_-_, _≤_}
+-- `load::cabs::pairs_clear` meets its contract: the columns lent are those of the streams. Assumes nothing.
+use mathlib.Core.Path.{sym, _∙_}
+use Prim.Native.Nat.{_≤_}
 use native.Mathlib.Omega.{arith}
 use borrow.Author.Needs.{needs}
-use borrow.Author.Tests.{not-true, not-false}
-use lib.ListN.{take}
-use lib.Seq.{slice}
-use Rattle.load.specs.Stream.{noStream, pairsClear}
-use Rattle.load.specs.StreamLaws.{pairs-no, pairs-next, pairs-end}
+use lib.ListN.{length}
+use Rattle.load.specs.Stream.{endOf}
+use Rattle.load.specs.Columns.{shownOf}
+use Rattle.load.proofs.ColumnLaws.{column-holds, column-count, cab-columns, cabs-lent}
+use Rattle.load.specs.declared.stream.Stream.{Stream}
 use Rattle.load.proofs.cabs.pairs_clear.Statement.{statement}
 use Rattle.load.proofs.cabs.pairs_clear.Tie as tie
 
-abbrev Inv-loop : tie.InvT-loop
-Inv-loop count xs i₀ i = (i ≤ count) × (pairsClear (take count xs) ≡ pairsClear (slice i count xs))
+columns-of-requires : tie.Need-columns-of-requires
+columns-of-requires c κs = search needs
 
-abbrev μ-loop : tie.MeasureT-loop
-μ-loop count xs i₀ i = count - i
+array-share-prefix-cabs : tie.Need-array-share-prefix-cabs
+array-share-prefix-cabs c =
+    let s = c .before .before .before .before in
+    let a = s .args in
+    let e = c .before .before .before .columns-of .ensures in
+    let h : a .count ≤ length (a .xs) = omega (arith, s .good) in
+    rw e (column-holds (λ (x : Stream). x .cabs) (a .xs) (a .count) h (s .pre .0))
 
-loop-holds : tie.Need-loop-holds Inv-loop μ-loop
-loop-holds c = search needs
+slice-aggregate-all-clear : tie.Need-slice-aggregate-all-clear
+slice-aggregate-all-clear c =
+    let s = c .before .before .before .before .before in
+    let a = s .args in
+    let e = c .before .before .before .before .columns-of .ensures in
+    let h : a .count ≤ length (a .xs) = omega (arith, s .good) in
+    rw e (sym (column-count (λ (x : Stream). x .cabs) (a .xs) (a .count) h (s .pre .0)))
 
-mul-x : tie.Need-mul-x Inv-loop μ-loop
-mul-x c = search needs
+array-share-prefix-shows : tie.Need-array-share-prefix-shows
+array-share-prefix-shows c =
+    let s = c .before .before .before .before .before in
+    let a = s .args in
+    let e = c .before .before .before .before .columns-of .ensures in
+    let h : a .count ≤ length (a .xs) = omega (arith, s .good) in
+    rw e (column-holds shownOf (a .xs) (a .count) h (s .pre .0))
 
-array-copy-out-x : tie.Need-array-copy-out-x Inv-loop μ-loop
-array-copy-out-x c = search needs
+slice-aggregate-all-clear-2 : tie.Need-slice-aggregate-all-clear-2
+slice-aggregate-all-clear-2 c =
+    let s = c .before .before .before .before .before .before in
+    let a = s .args in
+    let e = c .before .before .before .before .before .columns-of .ensures in
+    let h : a .count ≤ length (a .xs) = omega (arith, s .good) in
+    rw e (sym (column-count shownOf (a .xs) (a .count) h (s .pre .0)))
 
-add-clear-of : tie.Need-add-clear-of Inv-loop μ-loop
-add-clear-of c = search needs
+array-share-prefix-ends : tie.Need-array-share-prefix-ends
+array-share-prefix-ends c =
+    let s = c .before .before .before .before .before .before in
+    let a = s .args in
+    let e = c .before .before .before .before .before .columns-of .ensures in
+    let h : a .count ≤ length (a .xs) = omega (arith, s .good) in
+    rw e (column-holds endOf (a .xs) (a .count) h (s .pre .0))
 
-clear-of-requires : tie.Need-clear-of-requires Inv-loop μ-loop
-clear-of-requires c κs = (omega arith, omega arith, c .before .before .before .pre .1 (c .before .before .loop .i) (omega arith), c .before .before .before .pre .1)
+slice-aggregate-all-clear-3 : tie.Need-slice-aggregate-all-clear-3
+slice-aggregate-all-clear-3 c =
+    let s = c .before .before .before .before .before .before .before in
+    let a = s .args in
+    let e = c .before .before .before .before .before .before .columns-of .ensures in
+    let h : a .count ≤ length (a .xs) = omega (arith, s .good) in
+    rw e (sym (column-count endOf (a .xs) (a .count) h (s .pre .0)))
 
-returns : tie.Need-returns Inv-loop μ-loop
+all-clear-requires : tie.Need-all-clear-requires
+all-clear-requires c κs =
+    let s = c .before .before .before .before .before .before .before in
+    let a = s .args in
+    let e = c .before .before .before .before .before .before .columns-of .ensures in
+    let h : a .count ≤ length (a .xs) = omega (arith, s .good) in
+    rw e (cab-columns (a .xs) (a .count) h (s .pre .0))
+
+returns : tie.Need-returns
 returns c =
-    let a = c .before .before .before .before .before .args in
-    let l = c .before .before .before .before .loop in
-    let no = sym (c .before .clear-of .ensures) ∙ not-true _ (c .if1 .taken) in
-    sym (l .inv .1 ∙ pairs-no (a .t1) (l .i) (a .count) noStream (omega arith) (omega arith) no)
-
-add-i : tie.Need-add-i Inv-loop μ-loop
-add-i c = search needs
-
-loop-less : tie.Need-loop-less Inv-loop μ-loop
-loop-less c = search needs
-
-loop-again : tie.Need-loop-again Inv-loop μ-loop
-loop-again c =
-    let a = c .before .before .before .before .before .args in
-    let l = c .before .before .before .before .loop in
-    let passed = sym (c .before .clear-of .ensures) ∙ not-false _ (c .if1 .left) in
-    (omega arith, l .inv .1 ∙ pairs-next (a .t1) (l .i) (a .count) noStream (omega arith) (omega arith) passed)
-
-returns-2 : tie.Need-returns-2 Inv-loop μ-loop
-returns-2 c =
-    let a = c .before .before .args in
-    let l = c .before .loop in
-    sym (l .inv .1 ∙ pairs-end (a .t1) (l .i) (a .count) (omega arith))
+    let s = c .before .before .before .before .before .before .before .before in
+    let a = s .args in
+    let e = c .before .before .before .before .before .before .before .columns-of .ensures in
+    let h : a .count ≤ length (a .xs) = omega (arith, s .good) in
+    c .all-clear .ensures ∙ rw e (cabs-lent (a .xs) (a .count) h (s .pre .0) (s .pre .1))
 
 pub pairs-clear-spec : {M : Type 1} → statement M
 pairs-clear-spec =
     tie.close
     (tie.spec
-    Inv-loop
-    μ-loop
-    loop-holds
-    mul-x
-    array-copy-out-x
-    add-clear-of
-    clear-of-requires
-    returns
-    add-i
-    loop-less
-    loop-again
-    returns-2)
+    columns-of-requires
+    array-share-prefix-cabs
+    slice-aggregate-all-clear
+    array-share-prefix-shows
+    slice-aggregate-all-clear-2
+    array-share-prefix-ends
+    slice-aggregate-all-clear-3
+    all-clear-requires
+    returns)

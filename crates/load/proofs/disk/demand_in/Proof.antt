@@ -1,40 +1,88 @@
--- `load::disk::demand_in` meets its contract. The invariant: the sums of the streams passed and of those from i on are the whole,
--- and each stream passed adds at most one film and the largest reserve. The measure is what is left of the streams. Assumes nothing.
-use mathlib.Core.Path.{_≡_}
-use mathlib.Core.Bool.{cond}
+-- `load::disk::demand_in` meets its contract. The invariant: the sums of the films passed and of those from i on are the
+-- whole, and each film passed adds at most one film and the largest reserve. The measure is what is left of the films. Assumes
+-- nothing.
+use mathlib.Core.Path.{_≡_, ap}
 use Prim.Native.Nat.{_+_, _*_, _-_, _≤_}
 use native.Mathlib.Omega.{arith}
 use borrow.Author.Needs.{needs}
-use lib.ListN.{take, getD}
-use lib.Seq.{slice}
+use lib.ListN.{length, getD, drop}
 use Rattle.limits.specs.Bounds.{maxReserve}
-use Rattle.load.specs.Stream.{noStream, openIn, openCount, reservedIn}
-use Rattle.load.specs.StreamLaws.{total-next, total-end, cond-most}
-use Rattle.load.specs.declared.stream.Stream.{Stream}
+use Rattle.load.specs.Columns.{rows, openFrom, openRows, reserveRows}
+use Rattle.load.specs.StreamLaws.{cond-most}
+use Rattle.load.proofs.ColumnLaws.{rows-next, rows-end, cond-times}
 use Rattle.load.proofs.disk.demand_in.Statement.{statement}
 use Rattle.load.proofs.disk.demand_in.Tie as tie
 
 abbrev Inv-loop : tie.InvT-loop
-Inv-loop count t xs d₀ i₀ d i = (i ≤ count)
-    × (openCount t (take count xs) ≡ d .open + openCount t (slice i count xs))
-    × (reservedIn t (take count xs) ≡ d .reserve + reservedIn t (slice i count xs))
-    × (d .open ≤ i)
-    × (d .reserve ≤ maxReserve * i)
+Inv-loop starts ends reserves t films₀ reserve₀ i₀ films reserve i = (i ≤ length starts)
+    × (openRows t (rows starts ends reserves) ≡ films + openRows t (rows (drop i starts) (drop i ends) (drop i reserves)))
+    × (reserveRows t (rows starts ends reserves) ≡ reserve + reserveRows t (rows (drop i starts) (drop i ends) (drop i reserves)))
+    × (films ≤ i)
+    × (reserve ≤ maxReserve * i)
 
 abbrev μ-loop : tie.MeasureT-loop
-μ-loop count t xs d₀ i₀ d i = count - i
+μ-loop starts ends reserves t films₀ reserve₀ i₀ films reserve i = length starts - i
 
 loop-holds : tie.Need-loop-holds Inv-loop μ-loop
-loop-holds c = search needs
+loop-holds c = (omega arith, omega arith, omega arith, omega arith, omega arith)
 
-mul-x : tie.Need-mul-x Inv-loop μ-loop
-mul-x c = search needs
+mul-open-at : tie.Need-mul-open-at Inv-loop μ-loop
+mul-open-at c = search needs
 
-array-copy-out-x : tie.Need-array-copy-out-x Inv-loop μ-loop
-array-copy-out-x c = search needs
+shared-slice-read-open-at : tie.Need-shared-slice-read-open-at Inv-loop μ-loop
+shared-slice-read-open-at c = search needs
 
-demanded-requires : tie.Need-demanded-requires Inv-loop μ-loop
-demanded-requires c κs = let b = c .before .before .before .pre .1 (c .before .before .loop .i) (omega arith) in (omega arith, omega arith, b .reserve)
+mul-open-at-2 : tie.Need-mul-open-at-2 Inv-loop μ-loop
+mul-open-at-2 c = search needs
+
+shared-slice-read-open-at-2 : tie.Need-shared-slice-read-open-at-2 Inv-loop μ-loop
+shared-slice-read-open-at-2 c = search needs
+
+open-at-requires : tie.Need-open-at-requires Inv-loop μ-loop
+open-at-requires c κs = search needs
+
+add-films : tie.Need-add-films Inv-loop μ-loop
+add-films c =
+    let a = c .before .before .before .before .before .before .before .before .args in
+    let l = c .before .before .before .before .loop in
+    let k = a .starts .now in
+    let e = a .ends .now in
+    let r = a .reserves .now in
+    let v = openFrom (getD k (l .i) 0) (getD e (l .i) 0) (a .t) in
+    let one = cond-most v 1 1 (omega arith) in
+    omega (arith, c .open-at .ensures)
+
+mul-reserve : tie.Need-mul-reserve Inv-loop μ-loop
+mul-reserve c = search needs
+
+shared-slice-read-reserve : tie.Need-shared-slice-read-reserve Inv-loop μ-loop
+shared-slice-read-reserve c = search needs
+
+mul-reserve-2 : tie.Need-mul-reserve-2 Inv-loop μ-loop
+mul-reserve-2 c =
+    let s = c .before .before .before .before .before .before .before .before .before in
+    let a = s .args in
+    let l = c .before .before .before .before .before .loop in
+    let k = a .starts .now in
+    let e = a .ends .now in
+    let r = a .reserves .now in
+    let v = openFrom (getD k (l .i) 0) (getD e (l .i) 0) (a .t) in
+    let most : getD r (l .i) 0 ≤ maxReserve = s .pre .bounded (l .i) (omega arith) in
+    let its = cond-most v (getD r (l .i) 0) maxReserve most in
+    rw (c .before .open-at .ensures, cond-times v (getD r (l .i) 0)) (omega arith)
+
+add-reserve : tie.Need-add-reserve Inv-loop μ-loop
+add-reserve c =
+    let s = c .before .before .before .before .before .before .before .before .before in
+    let a = s .args in
+    let l = c .before .before .before .before .before .loop in
+    let k = a .starts .now in
+    let e = a .ends .now in
+    let r = a .reserves .now in
+    let v = openFrom (getD k (l .i) 0) (getD e (l .i) 0) (a .t) in
+    let most : getD r (l .i) 0 ≤ maxReserve = s .pre .bounded (l .i) (omega arith) in
+    let its = cond-most v (getD r (l .i) 0) maxReserve most in
+    rw (c .before .open-at .ensures, cond-times v (getD r (l .i) 0)) (omega arith)
 
 add-i : tie.Need-add-i Inv-loop μ-loop
 add-i c = search needs
@@ -44,23 +92,28 @@ loop-less c = search needs
 
 loop-again : tie.Need-loop-again Inv-loop μ-loop
 loop-again c =
-    let a = c .before .before .before .before .args in
-    let l = c .before .before .before .loop in
-    let x = getD (a .t1) (l .i) noStream in
-    let b = c .before .before .before .before .pre .1 (l .i) (omega arith) in
-    let one = cond-most (openIn (a .t) x) 1 1 (omega arith) in
-    let its = cond-most (openIn (a .t) x) (x .reserve) maxReserve (b .reserve) in
-    let opens = total-next (a .t1) (l .i) (a .count) noStream (omega arith) (omega arith) (λ (y : Stream). cond (openIn (a .t) y) 1 0) in
-    let reserves = total-next (a .t1) (l .i) (a .count) noStream (omega arith) (omega arith) (λ (y : Stream). cond (openIn (a .t) y) (y .reserve) 0) in
-    (omega arith, omega (arith, c .demanded .ensures), omega (arith, c .demanded .ensures), omega (arith, c .demanded .ensures), omega (arith, c .demanded .ensures))
+    let s = c .before .before .before .before .before .before .before .before .before in
+    let a = s .args in
+    let l = c .before .before .before .before .before .loop in
+    let k = a .starts .now in
+    let e = a .ends .now in
+    let r = a .reserves .now in
+    let v = openFrom (getD k (l .i) 0) (getD e (l .i) 0) (a .t) in
+    let most : getD r (l .i) 0 ≤ maxReserve = s .pre .bounded (l .i) (omega arith) in
+    let its = cond-most v (getD r (l .i) 0) maxReserve most in
+    let one = cond-most v 1 1 (omega arith) in
+    let next = rows-next k e r (l .i) (omega arith) (omega arith) (omega arith) in
+    let opens = ap (openRows (a .t)) next in
+    let reserved = ap (reserveRows (a .t)) next in
+    rw (c .before .open-at .ensures, cond-times v (getD r (l .i) 0))
+    (omega arith, omega arith, omega arith, omega arith, omega arith)
 
 returns : tie.Need-returns Inv-loop μ-loop
 returns c =
-    let a = c .before .before .args in
+    let a = c .before .before .before .before .before .args in
     let l = c .before .loop in
-    let opens = total-end (λ (y : Stream). cond (openIn (a .t) y) 1 0) (a .t1) (l .i) (a .count) (omega arith) in
-    let reserves = total-end (λ (y : Stream). cond (openIn (a .t) y) (y .reserve) 0) (a .t1) (l .i) (a .count) (omega arith) in
-    (omega arith, omega arith, omega arith, omega arith)
+    let none = rows-end (a .starts .now) (a .ends .now) (a .reserves .now) (l .i) (omega arith) in
+    (omega (arith, ap (openRows (a .t)) none), omega (arith, ap (reserveRows (a .t)) none), omega arith)
 
 pub demand-in-spec : {M : Type 1} → statement M
 demand-in-spec =
@@ -69,9 +122,16 @@ demand-in-spec =
     Inv-loop
     μ-loop
     loop-holds
-    mul-x
-    array-copy-out-x
-    demanded-requires
+    mul-open-at
+    shared-slice-read-open-at
+    mul-open-at-2
+    shared-slice-read-open-at-2
+    open-at-requires
+    add-films
+    mul-reserve
+    shared-slice-read-reserve
+    mul-reserve-2
+    add-reserve
     add-i
     loop-less
     loop-again

@@ -1,78 +1,92 @@
--- `load::disk::disk_at_starts` meets its contract. The invariant: the answer is that of the streams from i on. The measure is what is
--- left of them. Assumes nothing.
-use mathlib.Core.Path.{_≡_, sym, _∙_}
-use Prim.Native.Nat.{_≤_, _-_}
+-- `load::disk::disk_at_starts` meets its contract: the columns lent are those of the streams. Assumes nothing.
+use mathlib.Core.Path.{sym, _∙_}
+use Prim.Native.Nat.{_≤_}
 use native.Mathlib.Omega.{arith}
 use borrow.Author.Needs.{needs}
-use borrow.Author.Tests.{not-true, not-false}
-use lib.ListN.{take}
-use lib.Seq.{slice}
-use Rattle.load.specs.Stream.{noStream}
-use Rattle.load.specs.Disk.{diskKept, startsKept}
-use Rattle.load.specs.Lists.{all-no, all-next, all-end}
+use lib.ListN.{length}
+use Rattle.load.specs.Stream.{endOf}
+use Rattle.load.proofs.ColumnLaws.{column-holds, column-count, disk-columns, disk-lent}
 use Rattle.load.specs.declared.stream.Stream.{Stream}
 use Rattle.load.proofs.disk.disk_at_starts.Statement.{statement}
 use Rattle.load.proofs.disk.disk_at_starts.Tie as tie
 
-abbrev Inv-loop : tie.InvT-loop
-Inv-loop count disk xs i₀ i = (i ≤ count) × (startsKept disk (take count xs) (take count xs) ≡ startsKept disk (take count xs) (slice i count xs))
+columns-of-requires : tie.Need-columns-of-requires
+columns-of-requires c κs = search needs
 
-abbrev μ-loop : tie.MeasureT-loop
-μ-loop count disk xs i₀ i = count - i
+array-share-prefix-starts : tie.Need-array-share-prefix-starts
+array-share-prefix-starts c =
+    let s = c .before .before .before .before in
+    let a = s .args in
+    let e = c .before .before .before .columns-of .ensures in
+    let h : a .count ≤ length (a .xs) = omega (arith, s .good) in
+    rw e (column-holds (λ (x : Stream). x .start) (a .xs) (a .count) h (s .pre .0))
 
-loop-holds : tie.Need-loop-holds Inv-loop μ-loop
-loop-holds c = search needs
+slice-aggregate-kept-at-starts : tie.Need-slice-aggregate-kept-at-starts
+slice-aggregate-kept-at-starts c =
+    let s = c .before .before .before .before .before in
+    let a = s .args in
+    let e = c .before .before .before .before .columns-of .ensures in
+    let h : a .count ≤ length (a .xs) = omega (arith, s .good) in
+    rw e (sym (column-count (λ (x : Stream). x .start) (a .xs) (a .count) h (s .pre .0)))
 
-mul-x : tie.Need-mul-x Inv-loop μ-loop
-mul-x c = search needs
+array-share-prefix-ends : tie.Need-array-share-prefix-ends
+array-share-prefix-ends c =
+    let s = c .before .before .before .before .before in
+    let a = s .args in
+    let e = c .before .before .before .before .columns-of .ensures in
+    let h : a .count ≤ length (a .xs) = omega (arith, s .good) in
+    rw e (column-holds endOf (a .xs) (a .count) h (s .pre .0))
 
-array-copy-out-x : tie.Need-array-copy-out-x Inv-loop μ-loop
-array-copy-out-x c = search needs
+slice-aggregate-kept-at-starts-2 : tie.Need-slice-aggregate-kept-at-starts-2
+slice-aggregate-kept-at-starts-2 c =
+    let s = c .before .before .before .before .before .before in
+    let a = s .args in
+    let e = c .before .before .before .before .before .columns-of .ensures in
+    let h : a .count ≤ length (a .xs) = omega (arith, s .good) in
+    rw e (sym (column-count endOf (a .xs) (a .count) h (s .pre .0)))
 
-disk-at-requires : tie.Need-disk-at-requires Inv-loop μ-loop
-disk-at-requires c κs = search needs
+array-share-prefix-reserves : tie.Need-array-share-prefix-reserves
+array-share-prefix-reserves c =
+    let s = c .before .before .before .before .before .before in
+    let a = s .args in
+    let e = c .before .before .before .before .before .columns-of .ensures in
+    let h : a .count ≤ length (a .xs) = omega (arith, s .good) in
+    rw e (column-holds (λ (x : Stream). x .reserve) (a .xs) (a .count) h (s .pre .0))
 
-returns : tie.Need-returns Inv-loop μ-loop
+slice-aggregate-kept-at-starts-3 : tie.Need-slice-aggregate-kept-at-starts-3
+slice-aggregate-kept-at-starts-3 c =
+    let s = c .before .before .before .before .before .before .before in
+    let a = s .args in
+    let e = c .before .before .before .before .before .before .columns-of .ensures in
+    let h : a .count ≤ length (a .xs) = omega (arith, s .good) in
+    rw e (sym (column-count (λ (x : Stream). x .reserve) (a .xs) (a .count) h (s .pre .0)))
+
+kept-at-starts-requires : tie.Need-kept-at-starts-requires
+kept-at-starts-requires c κs =
+    let s = c .before .before .before .before .before .before .before in
+    let a = s .args in
+    let e = c .before .before .before .before .before .before .columns-of .ensures in
+    let h : a .count ≤ length (a .xs) = omega (arith, s .good) in
+    rw e (disk-columns (a .xs) (a .count) h (s .pre .0) (s .pre .1))
+
+returns : tie.Need-returns
 returns c =
-    let a = c .before .before .before .before .before .args in
-    let l = c .before .before .before .before .loop in
-    let xs = take (a .count) (a .t1) in
-    let no = sym (c .before .disk-at .ensures) ∙ not-true _ (c .if1 .taken) in
-    sym (l .inv .1 ∙ all-no (λ (y : Stream). diskKept (a .disk) xs (y .start)) (a .t1) (l .i) (a .count) noStream (omega arith) (omega arith) no)
-
-add-i : tie.Need-add-i Inv-loop μ-loop
-add-i c = search needs
-
-loop-less : tie.Need-loop-less Inv-loop μ-loop
-loop-less c = search needs
-
-loop-again : tie.Need-loop-again Inv-loop μ-loop
-loop-again c =
-    let a = c .before .before .before .before .before .args in
-    let l = c .before .before .before .before .loop in
-    let xs = take (a .count) (a .t1) in
-    let passed = sym (c .before .disk-at .ensures) ∙ not-false _ (c .if1 .left) in
-    (omega arith, l .inv .1 ∙ all-next (λ (y : Stream). diskKept (a .disk) xs (y .start)) (a .t1) (l .i) (a .count) noStream (omega arith) (omega arith) passed)
-
-returns-2 : tie.Need-returns-2 Inv-loop μ-loop
-returns-2 c =
-    let a = c .before .before .args in
-    let l = c .before .loop in
-    let xs = take (a .count) (a .t1) in
-    sym (l .inv .1 ∙ all-end (λ (y : Stream). diskKept (a .disk) xs (y .start)) (a .t1) (l .i) (a .count) (omega arith))
+    let s = c .before .before .before .before .before .before .before .before in
+    let a = s .args in
+    let e = c .before .before .before .before .before .before .before .columns-of .ensures in
+    let h : a .count ≤ length (a .xs) = omega (arith, s .good) in
+    c .kept-at-starts .ensures ∙ rw e (disk-lent (a .xs) (a .count) h (s .pre .0) (a .disk))
 
 pub disk-at-starts-spec : {M : Type 1} → statement M
 disk-at-starts-spec =
     tie.close
     (tie.spec
-    Inv-loop
-    μ-loop
-    loop-holds
-    mul-x
-    array-copy-out-x
-    disk-at-requires
-    returns
-    add-i
-    loop-less
-    loop-again
-    returns-2)
+    columns-of-requires
+    array-share-prefix-starts
+    slice-aggregate-kept-at-starts
+    array-share-prefix-ends
+    slice-aggregate-kept-at-starts-2
+    array-share-prefix-reserves
+    slice-aggregate-kept-at-starts-3
+    kept-at-starts-requires
+    returns)

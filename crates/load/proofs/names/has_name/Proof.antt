@@ -1,21 +1,22 @@
--- `load::names::name_in` meets its contract. The invariant: the answer is that of the bookings from i on. The measure is what is left of
--- them. Assumes nothing.
+-- `load::names::has_name` meets its contract. The invariant: the answer is that of the bookings from i on. The measure is what
+-- is left of them. Assumes nothing.
 use mathlib.Core.Path.{_≡_, sym, _∙_}
 use Prim.Native.Nat.{_-_, _≤_}
 use native.Mathlib.Omega.{arith}
 use borrow.Author.Needs.{needs}
+use lib.ListN.{take}
 use lib.Seq.{slice}
 use Rattle.model.specs.Questions.{hasName}
 use Rattle.model.specs.Calls.{noBooking}
 use Rattle.load.proofs.NameLaws.{name-here, name-next, name-end}
-use Rattle.load.proofs.names.name_in.Statement.{statement}
-use Rattle.load.proofs.names.name_in.Tie as tie
+use Rattle.load.proofs.names.has_name.Statement.{statement}
+use Rattle.load.proofs.names.has_name.Tie as tie
 
 abbrev Inv-loop : tie.InvT-loop
-Inv-loop from count name rows i₀ i = (i ≤ count) × (hasName name (slice from count rows) ≡ hasName name (slice i count rows))
+Inv-loop count name rows i₀ i = (i ≤ count) × (hasName name (take count rows) ≡ hasName name (slice i count rows))
 
 abbrev μ-loop : tie.MeasureT-loop
-μ-loop from count name rows i₀ i = count - i
+μ-loop count name rows i₀ i = count - i
 
 loop-holds : tie.Need-loop-holds Inv-loop μ-loop
 loop-holds c = search needs
@@ -50,8 +51,8 @@ returns-2 c =
     let l = c .before .loop in
     sym (l .inv .1 ∙ name-end (a .name) (a .t1) (l .i) (a .count) (omega arith))
 
-pub name-in-spec : {M : Type 1} → statement M
-name-in-spec =
+pub has-name-spec : {M : Type 1} → statement M
+has-name-spec =
     tie.close
     (tie.spec
     Inv-loop
