@@ -13,8 +13,7 @@ use limits::refusals::SIZE_COUNT;
 use limits::refusals::TRAILING;
 use limits::refusals::TRUNCATED;
 
-// Are n sizes within the bound? They are exactly if all of them joined are: one test after the loop, so that the loop
-// becomes vector code.
+// Are n sizes within the bound? Each is exactly if their join is, and a loop without a test becomes vector code.
 fn small(file: &[u8], from: usize, n: usize) -> bool
     requires { ⌜ from + 4 * n ≤ length (now file) ⌝ }
     ensures { λ r. ⌜ r ≡ smallSizes (now (file .entry)) from n ⌝ }

@@ -13,7 +13,7 @@ pub fn takes(helds: &[u64], memory: u64, profile: &[u64], s: usize, j: usize) ->
 }
 
 // Of the rounds 0 to n - 1 of a stream from s on, one in which memory cannot take it; n if there is none. They are looked at from
-// both ends at once, since a film that memory refuses often is refused near its first or its last round.
+// both ends at once, so that a refusal near either end is found soon.
 pub fn some_over(helds: &[u64], memory: u64, profile: &[u64], s: usize, n: usize) -> usize
     requires { ⌜ (HeldRows (now helds) (s + n)) × (HeldRows (now profile) n) ⌝ }
     ensures { λ r. ⌜ SomeFails (λ j. memoryFits (now (helds .entry)) memory (now (profile .entry)) s j) n r ⌝ }
