@@ -1,19 +1,18 @@
 -- Laws of a window that is filled stream by stream, and of a day's windows. Assumes nothing.
 use mathlib.Core.Path.{_≡_, refl, sym, ap, ap₂, _∙_}
 use mathlib.Core.Bool.{Bool, true, false, _&&_}
-use mathlib.Core.List.{List, [], _∷_, _++_}
+use mathlib.Core.List.{List, [], _∷_, _++_, append-nil}
 use Prim.Native.Nat.{ℕ, zero, suc, _+_, _-_, _*_, _≤_, _<_}
 use native.Mathlib.Nat.{not-suc-le-zero}
 use native.Mathlib.Numerals.{add-one}
 use native.Mathlib.Omega.{arith}
-use lib.ListN.{length, getD, set, take, drop, replicate, length-set, length-take}
+use lib.ListN.{length, getD, set, take, drop, replicate, length-set, length-take, drop-of-length-le}
 use lib.Seq.{take-suc, getD-set-same, getD-set-other, getD-take}
 use lib.Dec.{leb, eqb}
 use borrow.Author.Count.{below-more}
 use borrow.Author.Tests.{le-leb, leb-true, leb-false, eq-eqb, ne-eqb}
 use Rattle.limits.specs.Bounds.{maxBookings}
 use Rattle.laws.specs.Tests.{all, below}
-use Rattle.laws.specs.Fold.{fold}
 use Rattle.laws.specs.Sums.{largest}
 use Rattle.retrieval.specs.Carry.{carry}
 use Rattle.retrieval.specs.JustInTime.{due, existsBy}
@@ -21,7 +20,7 @@ use Rattle.retrieval.specs.CarryLaws.{due-carry}
 use Rattle.retrieval.specs.Stored.{maxHeld, largest-bound}
 use Rattle.load.specs.Stream.{noStream, sendsOf, total, holdsIn, heldIn, carryFrom}
 use Rattle.load.specs.Basic.{Playable, Within, EachOf}
-use Rattle.sheet.specs.Memory.{feasible, memoryKept, later, Windowed, Added, Fills, Filled}
+use Rattle.sheet.specs.Memory.{feasible, memoryKept, Spans, openUntil, Windowed, Added, Fills, Filled, WindowKept}
 use Rattle.sheet.specs.WindowLaws.{carry-late}
 use Rattle.sheet.specs.OpenLaws.{skip-carried, skip-kept}
 use Rattle.load.specs.declared.stream.Stream.{Stream}
@@ -202,26 +201,23 @@ passed-none f xs n T M carries s z g =
     record { size = s; kept = refl; carried = λ i h. z i ∙ sym (carry-late f (getD xs i noStream) T (g i h)) }
 
 module _ (f : List ℕ) (xs : List Stream) (n T M : ℕ) (carries : List ℕ) (e : ℕ) (g : Passed f xs n T M carries e) where
-  module _ (window : List ℕ) (w : ℕ) (left : List ℕ) (h : w ≤ e) (k : e ≤ w + length window) (a : Filled f xs n window w e left) where
+  module _ (w : ℕ) (left : List ℕ) (r : Bool) (a : WindowKept f xs n M w e left r) where
     -- a round of the window passes the limit
-    pub passed-no : all (λ v. leb v M) (take (e - w) window) ≡ false
-        → memoryKept f M T (take n xs) && all (feasible f) (take n xs) ≡ false
-    passed-no z =
-        let no : memoryKept f M T (take n xs) ≡ false = g .kept ∙ kept-window f M xs n window w e left h k a ∙ rw z in
-        rw no
+    pub passed-no : r ≡ false → memoryKept f M T (take n xs) && all (feasible f) (take n xs) ≡ false
+    passed-no z = let no : memoryKept f M T (take n xs) ≡ false = g .kept ∙ a .kept ∙ rw z in rw no
 
     -- none does
-    pub passed-next : length left ≡ maxBookings → all (λ v. leb v M) (take (e - w) window) ≡ true → Passed f xs n T M left w
-    passed-next s z =
-        record { size = s; kept = g .kept ∙ kept-window f M xs n window w e left h k a ∙ rw z; carried = a .carried }
+    pub passed-next : length left ≡ maxBookings → r ≡ true → Passed f xs n T M left w
+    passed-next s z = record { size = s; kept = g .kept ∙ a .kept ∙ rw z; carried = a .carried }
 
   -- rounds in which nothing is open are skipped
-  pub passed-skip : (r : ℕ) → n ≤ length xs → EachOf (Playable f) n xs → r ≡ fold (later e) 0 (take n xs) → Passed f xs n T M carries r
-  passed-skip r h each q =
+  pub passed-skip : (r : ℕ) (starts ends : List ℕ) → EachOf (Playable f) n xs → Spans n xs starts ends → r ≡ openUntil e starts ends n
+      → Passed f xs n T M carries r
+  passed-skip r starts ends each at q =
       record {
         size = g .size;
-        kept = g .kept ∙ skip-kept f xs n e r h each q M;
-        carried = λ i u. g .carried i u ∙ skip-carried f xs n e r h each q i u;
+        kept = g .kept ∙ skip-kept f xs n e r starts ends each at q M;
+        carried = λ i u. g .carried i u ∙ skip-carried f xs n e r starts ends each at q i u;
       }
 
   -- no window is left
@@ -233,6 +229,13 @@ module _ (f : List ℕ) (xs : List Stream) (n T M : ℕ) (carries : List ℕ) (e
       let carried : (i : ℕ) → i < n → getD carries i 0 ≡ carryFrom f 0 (getD xs i noStream) =
       λ i u. g .carried i u ∙ ap (λ (t : ℕ). carryFrom f t (getD xs i noStream)) z in
       rw kept (feasible-all f xs n carries h (omega (arith, g .size)) carried)
+
+-- a list whose places were all zeroed
+pub cleared-all : (n : ℕ) (l l′ : List ℕ) → length l ≡ n → l′ ≡ replicate n 0 ++ drop n l → l′ ≡ replicate n 0
+cleared-all n l l′ h e =
+    let short : length l ≤ n = omega arith in
+    let none : drop n l ≡ [] = drop-of-length-le l short in
+    e ∙ rw (none, append-nil)
 
 -- every place of a list of zeros, and past its end
 pub zeros-at : (n k : ℕ) → _≡_ {A = ℕ} (getD (replicate n 0) k 0) 0

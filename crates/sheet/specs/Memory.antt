@@ -1,8 +1,8 @@
 -- Memory's side of a day. Document 01: "In each round .. held ≤ M".
 use mathlib.Core.Path.{_≡_}
-use mathlib.Core.Bool.{Bool, cond}
+use mathlib.Core.Bool.{Bool, cond, _&&_}
 use mathlib.Core.List.{List}
-use Prim.Native.Nat.{ℕ, _+_, _-_, _^_, _≤_, _<_, min, max}
+use Prim.Native.Nat.{ℕ, zero, suc, _+_, _-_, _^_, _≤_, _<_, min, max}
 use lib.ListN.{length, getD, take}
 use lib.Dec.{leb, ltb}
 use Rattle.limits.specs.Bounds.{maxBookings}
@@ -22,15 +22,30 @@ feasible f x = existsBy (x .reserve) (sendsOf f x)
 unfoldable pub memoryKept : List ℕ → ℕ → ℕ → List Stream → Bool
 memoryKept f M T xs = below T (λ t. leb (heldIn f t xs) M)
 
--- ---- the rounds in which a stream is open
+-- ---- rounds in which a stream is open, by the streams' starts and ends
 
--- the larger of m and the round after the stream's last below e; m if it has none there
-unfoldable pub later : ℕ → ℕ → Stream → ℕ
-later e m x = cond (ltb (x .start) e) (max m (min (endOf x) e)) m
+-- those of the first n streams
+pub record Spans (n : ℕ) (xs : List Stream) (starts ends : List ℕ) : Type 0 where
+  pub start : (i : ℕ) → i < n → getD starts i 0 ≡ getD xs i noStream .start
+  pub end : (i : ℕ) → i < n → getD ends i 0 ≡ endOf (getD xs i noStream)
 
--- the smaller of m and the stream's first round from w on; m if it has none there
-unfoldable pub earlier : ℕ → ℕ → Stream → ℕ
-earlier w m x = cond (ltb w (endOf x)) (min m (max w (x .start))) m
+-- the larger of m and the round after the last below e of the rounds from s to t - 1; m if none of those is below e
+unfoldable pub later : ℕ → ℕ → ℕ → ℕ → ℕ
+later e m s t = cond (ltb s e) (max m (min t e)) m
+
+-- the round after the last below e in which one of the first n is open; 0 if none is
+abbrev pub openUntil : ℕ → List ℕ → List ℕ → ℕ → ℕ
+openUntil e starts ends zero = 0
+openUntil e starts ends (suc n) = later e (openUntil e starts ends n) (getD starts n 0) (getD ends n 0)
+
+-- the smaller of m and the first from w on of the rounds from s to t - 1; m if none of those is from w on
+unfoldable pub earlier : ℕ → ℕ → ℕ → ℕ → ℕ
+earlier w m s t = cond (ltb w t) (min m (max w s)) m
+
+-- the first of the rounds from w on in which one of the first n is open; `last` if none before that is
+abbrev pub openFrom : ℕ → ℕ → List ℕ → List ℕ → ℕ → ℕ
+openFrom w last starts ends zero = last
+openFrom w last starts ends (suc n) = earlier w (openFrom w last starts ends n) (getD starts n 0) (getD ends n 0)
 
 -- ---- a window: the rounds from w to e - 1, the first of a list's places
 
@@ -62,4 +77,9 @@ pub record Fills (f : List ℕ) (xs : List Stream) (n : ℕ) (window : List ℕ)
 -- and what is found then: in each of the window's rounds what the streams hold together
 pub record Filled (f : List ℕ) (xs : List Stream) (n : ℕ) (window : List ℕ) (w e : ℕ) (carries : List ℕ) : Type 0 where
   pub held : (t : ℕ) → w ≤ t → t < e → getD window (t - w) 0 ≡ heldIn f t (take n xs)
+  pub carried : (i : ℕ) → i < n → getD carries i 0 ≡ carryFrom f w (getD xs i noStream)
+
+-- and what is found once it is tested: r says whether its rounds keep the limit M
+pub record WindowKept (f : List ℕ) (xs : List Stream) (n M w e : ℕ) (carries : List ℕ) (r : Bool) : Type 0 where
+  pub kept : memoryKept f M e (take n xs) ≡ r && memoryKept f M w (take n xs)
   pub carried : (i : ℕ) → i < n → getD carries i 0 ≡ carryFrom f w (getD xs i noStream)

@@ -1,73 +1,88 @@
 -- Laws of the rounds in which some stream is open, and of those in which none is. Assumes nothing.
 use mathlib.Core.Path.{_≡_, refl, ap, _∙_}
+use mathlib.Core.Logic.{⊎-elim}
 use mathlib.Core.Bool.{Bool, true, false, cond, _&&_}
 use mathlib.Core.List.{List, [], _∷_}
 use Prim.Native.Nat.{ℕ, zero, suc, _+_, _-_, _≤_, _<_, min, max}
-use native.Mathlib.Nat.{not-suc-le-zero}
+use native.Mathlib.Nat.{not-suc-le-zero, le-of-suc-le-suc, eq-or-lt-of-le}
 use native.Mathlib.Omega.{arith}
-use lib.ListN.{length, getD, take, length-take}
-use lib.Seq.{getD-take}
+use lib.ListN.{length, getD, set, take}
+use lib.Seq.{getD-set-same, getD-set-other}
 use lib.Dec.{leb, ltb}
+use borrow.Author.Count.{below-more}
 use borrow.Author.Tests.{le-leb, ltb-false}
 use Rattle.laws.specs.Tests.{below}
-use Rattle.laws.specs.Fold.{fold}
 use Rattle.load.specs.Stream.{noStream, endOf, total, holdsIn, heldIn, carryFrom}
 use Rattle.load.specs.Basic.{Playable, EachOf}
-use Rattle.sheet.specs.Memory.{memoryKept, later, earlier}
+use Rattle.sheet.specs.Memory.{memoryKept, Spans, later, openUntil, earlier, openFrom}
 use Rattle.sheet.specs.WindowLaws.{skip-carry, skip-holds}
 use Rattle.load.specs.declared.stream.Stream.{Stream}
 
--- ---- the first of the rounds from w on in which one is open, m at the most
+-- ---- the starts and ends written up to i
 
-module _ (w : ℕ) where
-  earlier-between : (m : ℕ) (x : Stream) → w ≤ m → (w ≤ earlier w m x) × (earlier w m x ≤ m)
-  unfolding earlier
-  earlier-between m x h = go (ltb w (endOf x))
-    where
-      go : (v : Bool) → (w ≤ cond v (min m (max w (x .start))) m) × (cond v (min m (max w (x .start))) m ≤ m)
-      go true = omega arith
-      go false = omega arith
+pub spans-none : (xs : List Stream) (starts ends : List ℕ) → Spans 0 xs starts ends
+spans-none xs starts ends =
+    record { start = λ i h. absurd (not-suc-le-zero h); end = λ i h. absurd (not-suc-le-zero h) }
 
-  pub from-between : (m : ℕ) (xs : List Stream) → w ≤ m → (w ≤ fold (earlier w) m xs) × (fold (earlier w) m xs ≤ m)
-  from-between m [] h = omega arith
-  from-between m (x ∷ xs) h =
-      let a = earlier-between m x h in
-      let b = from-between (earlier w m x) xs (a .0) in
-      omega arith
+pub spans-next : (xs : List Stream) (starts ends : List ℕ) (i s t : ℕ) → i < length starts → i < length ends → Spans i xs starts ends
+    → s ≡ getD xs i noStream .start → t ≡ endOf (getD xs i noStream) → Spans (i + 1) xs (set starts i s) (set ends i t)
+spans-next xs starts ends i s t h k g p q =
+    record {
+      start =
+          below-more _ i (λ j u. getD-set-other starts i j s 0 (λ z. omega arith) ∙ g .start j u) (getD-set-same starts i s 0 h ∙ p);
+      end = below-more _ i (λ j u. getD-set-other ends i j t 0 (λ z. omega arith) ∙ g .end j u) (getD-set-same ends i t 0 k ∙ q);
+    }
 
--- ---- the round after the last below e in which one is open, m at the least
+-- ---- the first of the rounds from w on in which one is open
+
+earlier-between : (w last m s t : ℕ) → (w ≤ m) × (m ≤ last) → (w ≤ earlier w m s t) × (earlier w m s t ≤ last)
+unfolding earlier
+earlier-between w last m s t u = go (ltb w t)
+  where
+    go : (v : Bool) → (w ≤ cond v (min m (max w s)) m) × (cond v (min m (max w s)) m ≤ last)
+    go true = omega arith
+    go false = omega arith
+
+pub from-between : (w last : ℕ) (starts ends : List ℕ) (n : ℕ) → w ≤ last
+    → (w ≤ openFrom w last starts ends n) × (openFrom w last starts ends n ≤ last)
+from-between w last starts ends zero h = omega arith
+from-between w last starts ends (suc n) h =
+    earlier-between w last (openFrom w last starts ends n) (getD starts n 0) (getD ends n 0) (from-between w last starts ends n h)
+
+-- ---- the round after the last below e in which one is open
 
 module _ (e : ℕ) where
-  later-between : (m : ℕ) (x : Stream) → m ≤ e → (m ≤ later e m x) × (later e m x ≤ e)
+  later-between : (m s t : ℕ) → m ≤ e → (m ≤ later e m s t) × (later e m s t ≤ e)
   unfolding later
-  later-between m x h = go (ltb (x .start) e)
+  later-between m s t h = go (ltb s e)
     where
-      go : (v : Bool) → (m ≤ cond v (max m (min (endOf x) e)) m) × (cond v (max m (min (endOf x) e)) m ≤ e)
+      go : (v : Bool) → (m ≤ cond v (max m (min t e)) m) × (cond v (max m (min t e)) m ≤ e)
       go true = omega arith
       go false = omega arith
 
-  pub until-between : (m : ℕ) (xs : List Stream) → m ≤ e → (m ≤ fold (later e) m xs) × (fold (later e) m xs ≤ e)
-  until-between m [] h = omega arith
-  until-between m (x ∷ xs) h =
-      let a = later-between m x h in
-      let b = until-between (later e m x) xs (a .1) in
-      omega arith
+  later-apart : (m s t : ℕ) → min t e ≤ max (later e m s t) s
+  unfolding later
+  later-apart m s t = go (ltb s e) refl
+    where
+      go : (v : Bool) → ltb s e ≡ v → min t e ≤ max (cond v (max m (min t e)) m) s
+      go true u = omega arith
+      go false u = omega (arith, ltb-false s e u)
+
+module _ (e : ℕ) (starts ends : List ℕ) where
+  pub until-most : (n : ℕ) → openUntil e starts ends n ≤ e
+  until-most zero = omega arith
+  until-most (suc n) = later-between e (openUntil e starts ends n) (getD starts n 0) (getD ends n 0) (until-most n) .1
 
   -- no stream is open from there to e - 1
-  later-apart : (m : ℕ) (x : Stream) → min (endOf x) e ≤ max (later e m x) (x .start)
-  unfolding later
-  later-apart m x = go (ltb (x .start) e) refl
+  until-apart : (n i : ℕ) → i < n → min (getD ends i 0) e ≤ max (openUntil e starts ends n) (getD starts i 0)
+  until-apart zero i h = absurd (not-suc-le-zero h)
+  until-apart (suc n) i h =
+      ⊎-elim (λ q. rw q (later-apart e m (getD starts n 0) (getD ends n 0)))
+      (λ q. omega (arith, until-apart n i q, later-between e m (getD starts n 0) (getD ends n 0) (until-most n)))
+      (eq-or-lt-of-le (le-of-suc-le-suc h))
     where
-      go : (v : Bool) → ltb (x .start) e ≡ v → min (endOf x) e ≤ max (cond v (max m (min (endOf x) e)) m) (x .start)
-      go true u = omega arith
-      go false u = omega (arith, ltb-false (x .start) e u)
-
-  until-apart : (m : ℕ) (xs : List Stream) (i : ℕ) (d : Stream) → m ≤ e → i < length xs
-      → min (endOf (getD xs i d)) e ≤ max (fold (later e) m xs) (getD xs i d .start)
-  until-apart m [] i d h k = absurd (not-suc-le-zero k)
-  until-apart m (x ∷ xs) zero d h k =
-      omega (arith, later-apart m x, until-between (later e m x) xs (later-between m x h .1))
-  until-apart m (x ∷ xs) (suc i) d h k = until-apart (later e m x) xs i d (later-between m x h .1) (omega arith)
+      m : ℕ
+      m = openUntil e starts ends n
 
 -- ---- rounds that hold nothing
 
@@ -86,24 +101,22 @@ below-skip F r (suc k) g =
     ∙ below-skip F r k (λ t h u. g t h (omega arith))
 
 -- the rounds from r to e - 1, where r is the round after the last below e in which one of the first n is open
-module _ (f : List ℕ) (xs : List Stream) (n e r : ℕ) (few : n ≤ length xs) (each : EachOf (Playable f) n xs) (q : r ≡ fold (later e) 0 (take n xs)) where
-  until-most : r ≤ e
-  until-most = omega (arith, until-between e 0 (take n xs) (omega arith))
+module _ (f : List ℕ) (xs : List Stream) (n e r : ℕ) (starts ends : List ℕ) (each : EachOf (Playable f) n xs) (at : Spans n xs starts ends) (q : r ≡ openUntil e starts ends n) where
+  most : r ≤ e
+  most = omega (arith, until-most e starts ends n)
 
   apart : (i : ℕ) → i < n → min (endOf (getD xs i noStream)) e ≤ max r (getD xs i noStream .start)
-  apart i h =
-      let lx = length-take n xs in
-      rw (q, ← getD-take n xs i noStream h) (until-apart e 0 (take n xs) i noStream (omega arith) (omega arith))
+  apart i h = omega (arith, at .start i h, at .end i h, until-apart e starts ends n i h)
 
   -- the carries do not change
   pub skip-carried : (i : ℕ) → i < n → carryFrom f e (getD xs i noStream) ≡ carryFrom f r (getD xs i noStream)
-  skip-carried i h = skip-carry f (getD xs i noStream) r e until-most (each i h .bounded .some) (apart i h)
+  skip-carried i h = skip-carry f (getD xs i noStream) r e most (each i h .bounded .some) (apart i h)
 
   -- and every memory limit is kept
   pub skip-kept : (M : ℕ) → memoryKept f M e (take n xs) ≡ memoryKept f M r (take n xs)
   unfolding memoryKept
   skip-kept M =
-      let m = until-most in
+      let m = most in
       let z : e ≡ r + (e - r) = omega arith in
       ap (λ (t : ℕ). below t (λ (s : ℕ). leb (heldIn f s (take n xs)) M)) z
       ∙ below-skip (λ (s : ℕ). leb (heldIn f s (take n xs)) M) r (e - r) (λ t h k. nothing t h (omega arith))
@@ -112,5 +125,5 @@ module _ (f : List ℕ) (xs : List Stream) (n e r : ℕ) (few : n ≤ length xs)
       nothing t h k =
           let held : heldIn f t (take n xs) ≡ 0 =
           total-none (holdsIn f t) xs n
-          (λ i u. skip-holds f (getD xs i noStream) r e until-most (each i u .bounded .some) (apart i u) t h k) in
+          (λ i u. skip-holds f (getD xs i noStream) r e most (each i u .bounded .some) (apart i u) t h k) in
           le-leb (heldIn f t (take n xs)) M (omega arith)

@@ -1,17 +1,18 @@
 // Memory's side of a day, tested in windows of rounds from the last to the first, so that no list by round is needed. A
 // stream's carry goes from window to window. Rounds in which nothing is open are in no window.
+use crate::clear::clear;
 use limits::bounds::MAX_BOOKINGS;
 use load::stream::Stream;
 ghost use mathlib.Core.Path.{_≡_};
 ghost use mathlib.Core.Bool.{_&&_};
-ghost use Prim.Native.Nat.{_≤_, min, max};
-ghost use lib.ListN.{length, take};
+ghost use Prim.Native.Nat.{_-_, _≤_, min, max};
+ghost use lib.ListN.{length, take, replicate};
 ghost use lib.Dec.{leb, eqb};
 ghost use Rattle.limits.specs.Bounds.{maxBookings};
 ghost use Rattle.laws.specs.Tests.{all};
-ghost use Rattle.laws.specs.Fold.{fold};
 ghost use Rattle.load.specs.Basic.{Bounded, Playable, Within, EachOf};
-ghost use Rattle.sheet.specs.Memory.{feasible, memoryKept, later, earlier, Windowed, Added, Fills, Filled};
+ghost use Rattle.sheet.specs.Memory.{feasible, memoryKept, Spans, later, openUntil, earlier, openFrom};
+ghost use Rattle.sheet.specs.Memory.{Windowed, Added, Fills, Filled, WindowKept};
 
 // rounds in a window, at most
 const WINDOW: usize = 4096;
@@ -30,53 +31,63 @@ fn smaller(a: usize, b: usize) -> usize
     if a < b { a } else { b }
 }
 
-// The larger of m and the round after the stream's last below e; m if it has none there.
-fn later(x: Stream, e: usize, m: usize) -> usize
-    requires { ⌜ Bounded x ⌝ }
-    ensures { λ r. ⌜ r ≡ later e m x ⌝ }
+// Writes the starts and the ends, s + p + n, of the first `count` streams.
+fn spans(xs: [Stream; MAX_BOOKINGS], count: usize, starts: &mut [usize], ends: &mut [usize])
+    requires { ⌜ (count ≤ maxBookings) × EachOf Bounded count xs × (count ≤ length (now starts)) × (count ≤ length (now ends)) ⌝ }
+    ensures { λ _. ⌜ Spans count xs (now (starts .exit)) (now (ends .exit)) ⌝ }
 {
-    if x.start < e {
-        return larger(m, smaller(x.start + x.prefetch + x.rounds, e));
+    let mut i = 0;
+    while i < count {
+        let x = xs[i];
+        starts[i] = x.start;
+        ends[i] = x.start + x.prefetch + x.rounds;
+        i += 1;
+    }
+}
+
+// The larger of m and the round after the last below e of the rounds from s to t - 1; m if none of those is below e.
+fn later(m: usize, e: usize, s: usize, t: usize) -> usize
+    ensures { λ r. ⌜ r ≡ later e m s t ⌝ }
+{
+    if s < e {
+        return larger(m, smaller(t, e));
     }
     m
 }
 
 // The round after the last below e in which one of the first `count` streams is open; 0 if none is.
-fn open_until(xs: [Stream; MAX_BOOKINGS], count: usize, e: usize) -> usize
-    requires { ⌜ (count ≤ maxBookings) × EachOf Bounded count xs ⌝ }
-    ensures { λ r. ⌜ (r ≡ fold (later e) 0 (take count xs)) × (r ≤ e) ⌝ }
+fn open_until(starts: &[usize], ends: &[usize], count: usize, e: usize) -> usize
+    requires { ⌜ (count ≤ length (now starts)) × (count ≤ length (now ends)) ⌝ }
+    ensures { λ r. ⌜ (r ≡ openUntil e (now (starts .entry)) (now (ends .entry)) count) × (r ≤ e) ⌝ }
 {
     let mut m = 0;
     let mut i = 0;
     while i < count {
-        let x = xs[i];
-        m = later(x, e, m);
+        m = later(m, e, starts[i], ends[i]);
         i += 1;
     }
     m
 }
 
-// The smaller of m and the stream's first round from w on; m if it has none there.
-fn earlier(x: Stream, w: usize, m: usize) -> usize
-    requires { ⌜ Bounded x ⌝ }
-    ensures { λ r. ⌜ r ≡ earlier w m x ⌝ }
+// The smaller of m and the first from w on of the rounds from s to t - 1; m if none of those is from w on.
+fn earlier(m: usize, w: usize, s: usize, t: usize) -> usize
+    ensures { λ r. ⌜ r ≡ earlier w m s t ⌝ }
 {
-    if w < x.start + x.prefetch + x.rounds {
-        return smaller(m, larger(w, x.start));
+    if w < t {
+        return smaller(m, larger(w, s));
     }
     m
 }
 
 // The first of the rounds from w on in which one of the first `count` streams is open; `last` if none before that is.
-fn open_from(xs: [Stream; MAX_BOOKINGS], count: usize, w: usize, last: usize) -> usize
-    requires { ⌜ (count ≤ maxBookings) × EachOf Bounded count xs × (w ≤ last) ⌝ }
-    ensures { λ r. ⌜ (r ≡ fold (earlier w) last (take count xs)) × (w ≤ r) × (r ≤ last) ⌝ }
+fn open_from(starts: &[usize], ends: &[usize], count: usize, w: usize, last: usize) -> usize
+    requires { ⌜ (count ≤ length (now starts)) × (count ≤ length (now ends)) × (w ≤ last) ⌝ }
+    ensures { λ r. ⌜ (r ≡ openFrom w last (now (starts .entry)) (now (ends .entry)) count) × (w ≤ r) × (r ≤ last) ⌝ }
 {
     let mut m = last;
     let mut i = 0;
     while i < count {
-        let x = xs[i];
-        m = earlier(x, w, m);
+        m = earlier(m, w, starts[i], ends[i]);
         i += 1;
     }
     m
@@ -146,6 +157,27 @@ fn window_within(window: &[u64], n: usize, memory: u64) -> bool
     true
 }
 
+// Whether the rounds from w to e - 1 keep the memory limit, tested in a list of as many places. Turns `carries`, those of the
+// first `count` streams' rounds from e on, into those of their rounds from w on.
+fn window_kept(
+    file: &[u8],
+    xs: [Stream; MAX_BOOKINGS],
+    count: usize,
+    window: &mut [u64],
+    w: usize,
+    e: usize,
+    carries: &mut [u64],
+    memory: u64,
+) -> bool
+    requires { ⌜ (length (now window) ≡ e - w) × Fills (now file) xs count (replicate (e - w) 0) w e (now carries) ⌝ }
+    ensures { λ r. ⌜ WindowKept (now (file .entry)) xs count memory w e (now (carries .exit)) r ⌝ }
+{
+    let n = e - w;
+    clear(window, n);
+    window_fill(file, xs, count, window, w, e, carries);
+    window_within(window, n, memory)
+}
+
 // Whether the first `count` are all 0.
 fn none_left(carries: [u64; MAX_BOOKINGS], count: usize) -> bool
     requires { ⌜ count ≤ maxBookings ⌝ }
@@ -172,16 +204,28 @@ pub fn held_within(
     requires { ⌜ (count ≤ maxBookings) × EachOf (Playable (now file)) count xs × EachOf (Within «day_rounds») count xs ⌝ }
     ensures { λ r. ⌜ r ≡ memoryKept (now (file .entry)) memory «day_rounds» (take count xs) && all (feasible (now (file .entry))) (take count xs) ⌝ }
 {
+    let mut starts = [0usize; MAX_BOOKINGS];
+    let mut ends = [0usize; MAX_BOOKINGS];
+    spans(xs, count, &mut starts, &mut ends);
     let mut carries = [0u64; MAX_BOOKINGS];
-    let mut e = open_until(xs, count, day_rounds);
+    let mut window = [0u64; WINDOW];
+    let mut e = open_until(&starts, &ends, count, day_rounds);
     while 0 < e {
-        let w = open_from(xs, count, e - smaller(e, WINDOW), e - 1);
-        let mut window = [0u64; WINDOW];
-        window_fill(file, xs, count, &mut window, w, e, &mut carries);
-        if !window_within(&window, e - w, memory) {
+        let w = open_from(&starts, &ends, count, e - smaller(e, WINDOW), e - 1);
+        let n = e - w;
+        if !window_kept(
+            file,
+            xs,
+            count,
+            &mut window[..n],
+            w,
+            e,
+            &mut carries,
+            memory,
+        ) {
             return false;
         }
-        e = open_until(xs, count, w);
+        e = open_until(&starts, &ends, count, w);
     }
     none_left(carries, count)
 }

@@ -6,12 +6,6 @@ use Rattle.sheet.specs.Memory.{earlier}
 use Rattle.sheet.proofs.memory.earlier.Statement.{statement}
 use Rattle.sheet.proofs.memory.earlier.Tie as tie
 
-add-if1 : tie.Need-add-if1
-add-if1 c = search needs
-
-add-if1-2 : tie.Need-add-if1-2
-add-if1-2 c = search needs
-
 larger-requires : tie.Need-larger-requires
 larger-requires c κs = search needs
 
@@ -28,4 +22,4 @@ returns-2 c = rw (le-ltb _ _ (c .if1 .left))
 
 pub earlier-spec : {M : Type 1} → statement M
 earlier-spec =
-    tie.close (tie.spec add-if1 add-if1-2 larger-requires smaller-requires returns returns-2)
+    tie.close (tie.spec larger-requires smaller-requires returns returns-2)

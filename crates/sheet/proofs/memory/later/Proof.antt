@@ -6,12 +6,6 @@ use Rattle.sheet.specs.Memory.{later}
 use Rattle.sheet.proofs.memory.later.Statement.{statement}
 use Rattle.sheet.proofs.memory.later.Tie as tie
 
-add-smaller : tie.Need-add-smaller
-add-smaller c = search needs
-
-add-smaller-2 : tie.Need-add-smaller-2
-add-smaller-2 c = search needs
-
 smaller-requires : tie.Need-smaller-requires
 smaller-requires c κs = search needs
 
@@ -20,7 +14,7 @@ larger-requires c κs = search needs
 
 returns : tie.Need-returns
 unfolding later
-returns c = rw (lt-ltb _ _ (c .before .before .before .before .if1 .taken)) (omega arith)
+returns c = rw (lt-ltb _ _ (c .before .before .if1 .taken)) (omega arith)
 
 returns-2 : tie.Need-returns-2
 unfolding later
@@ -29,4 +23,4 @@ returns-2 c = rw (le-ltb _ _ (c .if1 .left))
 pub later-spec : {M : Type 1} → statement M
 later-spec =
     tie.close
-    (tie.spec add-smaller add-smaller-2 smaller-requires larger-requires returns returns-2)
+    (tie.spec smaller-requires larger-requires returns returns-2)

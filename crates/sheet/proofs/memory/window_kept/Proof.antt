@@ -1,0 +1,53 @@
+-- `sheet::memory::window_kept` meets its contract. The window is empty once it is cleared. Assumes nothing.
+use native.Mathlib.Omega.{arith}
+use Prim.Native.Nat.{_-_}
+use borrow.Author.Needs.{needs}
+use Rattle.sheet.specs.FillLaws.{kept-window, cleared-all}
+use Rattle.sheet.proofs.memory.window_kept.Statement.{statement}
+use Rattle.sheet.proofs.memory.window_kept.Tie as tie
+
+sub-n : tie.Need-sub-n
+sub-n c = search needs
+
+clear-requires : tie.Need-clear-requires
+clear-requires c κs = search needs
+
+window-fill-requires : tie.Need-window-fill-requires
+window-fill-requires c κs =
+    let s = c .before .before .before .before .before .before .before .before .before in
+    let a = s .args in
+    let clear = c .before .before .before .before .clear in
+    rw (cleared-all (a .e - a .w) (a .window .now) (clear .last .0) (s .pre .0) (clear .ensures)) (s .pre .1)
+
+window-within-requires : tie.Need-window-within-requires
+window-within-requires c κs = search needs
+
+same-length : tie.Need-same-length
+same-length c = search needs
+
+same-length-2 : tie.Need-same-length-2
+same-length-2 c = search needs
+
+returns : tie.Need-returns
+returns c =
+    let s = c .before .before .before .before .before .before .before .before .before .before .before .before .before .before .before .before in
+    let a = s .args in
+    let fill = c .before .before .before .before .before .before .window-fill in
+    record {
+      kept =
+          rw (c .window-within .ensures)
+          (kept-window (a .file .now) (a .memory) (a .xs) (a .count) (fill .last .1 .1 .1 .0) (a .w) (a .e) (fill .last .1 .1 .1 .1 .1 .1 .0) (omega arith) (omega arith) (fill .ensures));
+      carried = fill .ensures .carried;
+    }
+
+pub window-kept-spec : {M : Type 1} → statement M
+window-kept-spec =
+    tie.close
+    (tie.spec
+    sub-n
+    clear-requires
+    window-fill-requires
+    window-within-requires
+    same-length
+    same-length-2
+    returns)
