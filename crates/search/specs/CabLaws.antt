@@ -133,7 +133,8 @@ pub columns-next : (xs : List Stream) (y : Stream) (shows ends : List ℕ) (i m 
     → let x = getD xs i noStream in
     Columns (take (i + 1) xs) y (set shows m (x .start + x .prefetch)) (set ends m (endOf x)) (m + shares x y)
 unfolding apart clashes
-columns-next xs y shows ends i m h k l c = record { same = λ s. rw (add-one i, take-suc xs i noStream h) (all-snoc (free s) (take i xs) x ∙ one s (eqb (bitAnd (x .cabs) (y .cabs)) 0) refl) }
+columns-next xs y shows ends i m h k l c =
+    record { same = λ s. rw (add-one i, take-suc xs i noStream h) (all-snoc (free s) (take i xs) x ∙ one s (eqb (bitAnd (x .cabs) (y .cabs)) 0) refl) }
   where
     x : Stream
     x = getD xs i noStream

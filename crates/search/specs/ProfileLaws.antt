@@ -1,5 +1,5 @@
--- The new stream's profile, worked out once into a list of zeros: what the search asks of it holds, and a start passes the tests
--- with it exactly if the stream fits there by definition. Assumes nothing.
+-- The new stream's profile, worked out once into a list of zeros: what the search asks of it holds, and a start passes the
+-- tests with it exactly if the stream fits there by definition. Assumes nothing.
 use mathlib.Core.Path.{_≡_, sym, ap, ap₂, fun-ext}
 use mathlib.Core.Bool.{Bool, _&&_}
 use mathlib.Core.List.{List}

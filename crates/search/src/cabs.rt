@@ -5,7 +5,7 @@ ghost use mathlib.Core.Path.{_≡_};
 ghost use Prim.Native.Nat.{_+_, _≤_, _<_, min, max};
 ghost use lib.ListN.{length, take};
 ghost use Rattle.limits.specs.Bounds.{maxDay, maxBookings};
-ghost use Rattle.load.specs.Stream.{lengthOf, endOf};
+ghost use Rattle.load.specs.Stream.{lengthOf};
 ghost use Rattle.search.specs.Fit.{EndInDay};
 ghost use Rattle.search.specs.Search.{cabsApart, FailsTo};
 ghost use Rattle.search.specs.CabLaws.{afterClash, shares, Columns};

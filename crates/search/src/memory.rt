@@ -1,6 +1,6 @@
 // Rounds that memory can take.
 ghost use mathlib.Core.Path.{_≡_};
-ghost use Prim.Native.Nat.{_+_, _≤_, _<_};
+ghost use Prim.Native.Nat.{_+_};
 ghost use Rattle.search.specs.Fit.{HeldRows, memoryFits};
 ghost use Rattle.search.specs.Search.{Fails, SomeFails};
 
@@ -13,7 +13,7 @@ pub fn takes(helds: &[u64], memory: u64, profile: &[u64], s: usize, j: usize) ->
 }
 
 // Of the rounds 0 to n - 1 of a stream from s on, one in which memory cannot take it; n if there is none. They are looked at from
-// both ends at once, so that a refusal near either end is found soon.
+// both ends at once, so that neither a round near the first nor one near the last is found late.
 pub fn some_over(helds: &[u64], memory: u64, profile: &[u64], s: usize, n: usize) -> usize
     requires { ⌜ (HeldRows (now helds) (s + n)) × (HeldRows (now profile) n) ⌝ }
     ensures { λ r. ⌜ SomeFails (λ j. memoryFits (now (helds .entry)) memory (now (profile .entry)) s j) n r ⌝ }

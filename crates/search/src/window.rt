@@ -10,12 +10,13 @@ ghost use Rattle.model.specs.Fit.{firstOf};
 ghost use Rattle.search.specs.Fit.{answerOf};
 ghost use Rattle.search.specs.Search.{fits, testsOf, Walks, Clear, Tells};
 
-// A start to try, the round up to which its rounds are known to be free for the disk, and the round of the stream's own in
-// which memory refused a start before.
+// A start to try, the round up to which its rounds are known to be free for the disk, and the last two rounds of the stream's own
+// in which memory refused starts before.
 pub struct Candidate {
     pub start: usize,
     pub clear: usize,
     pub near: usize,
+    pub other: usize,
 }
 
 // What a start is found to be: it fits, or the next one to try.
@@ -30,8 +31,9 @@ fn larger(a: usize, b: usize) -> usize
     if a < b { b } else { a }
 }
 
-// Tries a start of a window. The cheapest test comes first; the disk's rounds are looked at from the far end, so that the last
-// one that it cannot take gives the next start, and none is looked at twice.
+// Tries a start of a window. The cheapest test comes first. The disk's rounds are looked at from the far end, so that the last
+// one that it cannot take gives the next start, and none is looked at twice. The cabs come last: memory can refuse very many
+// starts one by one, and a clash rules out every start until the other stream has ended.
 pub fn try_start(
     y: Stream,
     profile: &[u64],
@@ -59,6 +61,16 @@ pub fn try_start(
             start: start + 1,
             clear: c.clear,
             near,
+            other: c.other,
+        });
+    }
+    let other = memory::near_over(helds, memory, profile, start, n, c.other);
+    if other < n {
+        return Step::Next(Candidate {
+            start: start + 1,
+            clear: c.clear,
+            near: c.near,
+            other,
         });
     }
     let from = larger(start, c.clear);
@@ -69,14 +81,7 @@ pub fn try_start(
             start: free,
             clear: end,
             near: c.near,
-        });
-    }
-    let next = cabs::after_clashes(shows, ends, y, start);
-    if start < next {
-        return Step::Next(Candidate {
-            start: next,
-            clear: end,
-            near: c.near,
+            other: c.other,
         });
     }
     let over = memory::some_over(helds, memory, profile, start, n);
@@ -85,6 +90,16 @@ pub fn try_start(
             start: start + 1,
             clear: end,
             near: over,
+            other: c.near,
+        });
+    }
+    let next = cabs::after_clashes(shows, ends, y, start);
+    if start < next {
+        return Step::Next(Candidate {
+            start: next,
+            clear: end,
+            near: c.near,
+            other: c.other,
         });
     }
     Step::Fits
@@ -112,6 +127,7 @@ pub fn first_fit(
         start: first,
         clear: first,
         near: 0,
+        other: 0,
     };
     while c.start <= last {
         let step = try_start(

@@ -1,12 +1,12 @@
 -- `search::first_start` meets its contract: the profile worked out into zeros, and the columns of the streams that share a cab, tell
 -- the same as the profile and the streams by definition. Assumes nothing.
 use Prim.Native.Nat.{ℕ, _+_, _≤_}
-use mathlib.Core.Path.{_≡_, sym, ap, subst⁻¹, _∙_}
+use mathlib.Core.Path.{sym, ap, subst⁻¹, _∙_}
 use mathlib.Core.Bool.{Bool}
 use mathlib.Core.List.{List}
 use native.Mathlib.Omega.{arith}
 use borrow.Author.Needs.{needs}
-use lib.ListN.{length, take}
+use lib.ListN.{take}
 use lib.Seq.{length-take-le}
 use Rattle.limits.specs.Bounds.{maxPrefetch, maxRounds}
 use Rattle.load.specs.Stream.{lengthOf}

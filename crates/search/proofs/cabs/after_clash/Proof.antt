@@ -1,6 +1,5 @@
 -- `search::cabs::after_clash` meets its contract, by its test. Assumes nothing.
 use Prim.Native.Nat.{_≤_, _<_, min, max}
-use mathlib.Core.Path.{refl}
 use native.Mathlib.Omega.{arith}
 use borrow.Author.Needs.{needs}
 use borrow.Author.Tests.{lt-ltb, le-ltb}

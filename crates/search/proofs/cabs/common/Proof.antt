@@ -1,5 +1,4 @@
 -- `search::cabs::common` meets its contract, by its test. Assumes nothing.
-use mathlib.Core.Path.{refl}
 use borrow.Author.Tests.{eq-eqb, ne-eqb}
 use Rattle.search.proofs.cabs.common.Statement.{statement}
 use Rattle.search.proofs.cabs.common.Tie as tie
