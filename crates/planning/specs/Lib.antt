@@ -4,4 +4,5 @@ pub mod Answers
 pub mod AnswerLaws
 pub mod FileAnswers
 pub mod Written
+pub mod Slopes
 pub mod Figures

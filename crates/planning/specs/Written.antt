@@ -1,21 +1,32 @@
 -- The just-in-time totals where they are written, from the last place backward. Assumes nothing.
 use mathlib.Core.Path.{_≡_, refl}
 use mathlib.Core.List.{List, [], _∷_}
-use Prim.Native.Nat.{ℕ, zero, suc, _+_, _-_, _≤_, _<_, max}
-use native.Mathlib.Nat.{not-suc-le-zero, le-of-suc-le-suc}
+use Prim.Native.Nat.{ℕ, zero, suc, _+_, _-_, _*_, _≤_, _<_}
+use native.Mathlib.Nat.{not-suc-le-zero, mul-suc}
 use native.Mathlib.Omega.{arith}
-use lib.ListN.{length, getD, drop}
-use Rattle.laws.specs.Sums.{sum}
+use lib.ListN.{length, getD, take, drop}
+use Rattle.limits.specs.Bounds.{maxSize}
+use Rattle.laws.specs.Sums.{sum, largest}
+use Rattle.films.specs.Sizes.{size, sizes, Stored}
 use Rattle.retrieval.specs.Schedule.{sends, totals}
-use Rattle.retrieval.specs.JustInTime.{justInTime}
-use Rattle.retrieval.specs.Minimality.{justInTime-last, justInTime-before}
+use Rattle.retrieval.specs.JustInTime.{due, justInTime}
+use Rattle.retrieval.specs.Carry.{carry}
+use Rattle.retrieval.specs.CarryLaws.{due-carry, justInTime-at, prefetch}
 use Rattle.retrieval.specs.Round.{totals-at}
-use Rattle.retrieval.specs.Stored.{InRange}
+use Rattle.retrieval.specs.Sheet.{waiting}
+use Rattle.retrieval.specs.Stored.{sendsAt, InRange, maxHeld, length-sizes, largest-small, sends-shown}
 
 -- a list takes the p + n totals of a film
 pub record Writes (out s : List ℕ) (at n p b : ℕ) : Type 0 where
   pub film : InRange s at n p b
   pub places : p + n ≤ length out
+
+-- ---- the size before place i is what the round before p + i sends
+
+pub shown-size : (s : List ℕ) (at n p i : ℕ) → 0 < i → i ≤ n → size s (at + 4 * (i - 1)) ≡ getD (sendsAt s at n p) ((p + i) - 1) 0
+shown-size s at n p i h l =
+    let e : ((p + i) - 1) - p ≡ i - 1 = omega arith in
+    rw e at (sends-shown s at n p ((p + i) - 1) (omega arith) (omega arith))
 
 -- ---- sums
 
@@ -23,19 +34,13 @@ pub sum-sends : (p : ℕ) (xs : List ℕ) → sum (sends p xs) ≡ sum xs
 sum-sends zero xs = refl
 sum-sends (suc p) xs = omega (arith, sum-sends p xs)
 
-sum-drop : (xs : List ℕ) (t : ℕ) → t < length xs → sum (drop t xs) ≡ getD xs t 0 + sum (drop (suc t) xs)
-sum-drop [] t h = absurd (not-suc-le-zero h)
-sum-drop (x ∷ xs) zero h = refl
-sum-drop (x ∷ xs) (suc t) h = sum-drop xs t (le-of-suc-le-suc h)
+pub sum-bound : (m : ℕ) (xs : List ℕ) → largest xs ≤ m → sum xs ≤ m * length xs
+sum-bound m [] h = omega arith
+sum-bound m (x ∷ xs) h = omega (arith, sum-bound m xs (omega arith), mul-suc m (length xs))
 
--- a turn of a loop from k to k - 1 that adds
-pub turn-sum : (k x a : ℕ) (xs : List ℕ) → 0 < k → k ≤ length xs → a ≡ sum (drop k xs) → x ≡ getD xs (k - 1) 0
-    → a + x ≡ sum (drop (k - 1) xs)
-turn-sum zero x a xs h l ea ex = absurd (not-suc-le-zero h)
-turn-sum (suc k) x a xs h l ea ex =
-    let e : suc k - 1 ≡ k = omega arith in
-    let ex′ : x ≡ getD xs k 0 = rw e at ex in
-    rw e (omega (arith, sum-drop xs k l))
+pub total-small : (s : List ℕ) (at n : ℕ) → Stored s at n → sum (sizes s at n) ≤ maxHeld
+total-small s at n w =
+    omega (arith, w .few, sum-bound maxSize (sizes s at n) (largest-small s at n w), length-sizes s at n)
 
 -- ---- C by its place: C(k-1) stands at k behind C(-1)
 
@@ -53,22 +58,18 @@ turn-sent (suc k) x sent xs h l es ex =
     let ex′ : x ≡ getD xs k 0 = rw e at ex in
     rw e (omega (arith, totals-at 0 xs k l))
 
--- "in the last round A = C"
-pub start-rule : (b k total : ℕ) (xs : List ℕ) → 0 < k → k ≡ length xs → total ≡ sum xs
-    → max total (total - b) ≡ getD (justInTime b 0 xs) (k - 1) 0
-start-rule b k total [] h l e = absurd (omega arith)
-start-rule b k total (x ∷ xs) h l e =
-    let d : k - 1 ≡ length xs = omega arith in
-    rw d (omega (arith, justInTime-last b 0 x xs, totals-sum 0 (x ∷ xs)))
+-- A(k-1) is C(k-1) and the carry of the rounds from k on
+pub turn-total : (b k sent c : ℕ) (xs : List ℕ) → 0 < k → k ≤ length xs → sent ≡ getD (0 ∷ totals 0 xs) k 0 → c ≡ carry b (drop k xs)
+    → sent + c ≡ getD (justInTime b 0 xs) (k - 1) 0
+turn-total b zero sent c xs h l es ec = absurd (not-suc-le-zero h)
+turn-total b (suc k) sent c xs h l es ec =
+    let e : suc k - 1 ≡ k = omega arith in
+    rw e (omega (arith, justInTime-at b 0 xs k l, totals-at 0 xs k l))
 
--- "before it, A(t) is the larger of C(t) and A(t+1) - b, the latter taken as 0 if negative"
-pub turn-rule : (b k due sent : ℕ) (xs : List ℕ) → 0 < k - 1 → k ≤ length xs → due ≡ getD (justInTime b 0 xs) (k - 1) 0
-    → sent ≡ getD (0 ∷ totals 0 xs) (k - 1) 0 → max sent (due - b) ≡ getD (justInTime b 0 xs) ((k - 1) - 1) 0
-turn-rule b zero due sent xs h l ed es = absurd (omega arith)
-turn-rule b (suc zero) due sent xs h l ed es = absurd (omega arith)
-turn-rule b (suc (suc t)) due sent xs h l ed es =
-    let d : suc (suc t) - 1 ≡ suc t = omega arith in
-    let d′ : (suc (suc t) - 1) - 1 ≡ t = omega arith in
-    let ed′ : due ≡ getD (justInTime b 0 xs) (suc t) 0 = rw d at ed in
-    let es′ : sent ≡ getD (totals 0 xs) t 0 = rw d at es in
-    rw d′ (omega (arith, justInTime-before b 0 xs t l))
+-- ---- the totals of the pre-fetch rounds, which send nothing
+
+pub ahead-totals : (b p : ℕ) (xs : List ℕ) → waiting b (carry b xs) p ≡ take p (justInTime b 0 (sends p xs))
+ahead-totals b zero xs = refl
+ahead-totals b (suc p) xs =
+    let e : carry b xs - p * b ≡ due b 0 0 (sends p xs) = omega (arith, due-carry b 0 0 (sends p xs), prefetch b p xs) in
+    rw (e, ahead-totals b p xs)

@@ -1,6 +1,8 @@
-// The least reserve of a film, by bisection.
+// The least reserve of a film, by bisection and by what each pass shows to be needed.
 ghost use mathlib.Core.Path.{_≡_};
-ghost use Prim.Native.Nat.{ℕ};
+ghost use mathlib.Core.Bool.{cond};
+ghost use Prim.Native.Nat.{ℕ, _+_, _^_, _≤_, _<_};
+ghost use lib.Dec.{ltb};
 ghost use Rattle.films.specs.Layout.{sizesOf};
 ghost use Rattle.films.specs.Decode.{filmsOf};
 ghost use Rattle.films.specs.Sizes.{sizes, Stored};
@@ -10,6 +12,7 @@ ghost use Rattle.retrieval.specs.Schedule.{sends};
 ghost use Rattle.retrieval.specs.LeastReserve.{Serves, Least, servesBy, leastReserve};
 ghost use Rattle.retrieval.specs.Stored.{sendsAt, InRange};
 ghost use Rattle.planning.specs.Answers.{reserveBy, capQuestions, reserved};
+ghost use Rattle.planning.specs.Slopes.{raised, needed, Tries};
 use films::catalogue::catalogue;
 use films::lookup::lookup;
 use films::types::Lookup;
@@ -18,6 +21,7 @@ use limits::bounds::MAX_PREFETCH;
 use limits::refusals::CAP;
 use limits::refusals::NO_FILM;
 use limits::refusals::PREFETCH;
+use retrieval::carry_before;
 use retrieval::larger;
 use retrieval::less;
 
@@ -41,25 +45,103 @@ fn largest(file: &[u8], at: usize, n: usize) -> u64
     most
 }
 
-// Does a reserve of b bytes per round have a schedule with peak at most the cap?
-fn serves(file: &[u8], at: usize, n: usize, p: usize, cap: u64, b: u64) -> bool
-    requires { ⌜ InRange (now file) at n p b ⌝ }
-    ensures { λ r. ⌜ r ≡ servesBy (sendsAt (now (file .entry)) at n p) cap b ⌝ }
+// What one pass over a film's sizes finds of two reserves.
+struct Tried {
+    // of the first: its peak, and the rounds after the peak's that carry something, in a row;
+    most: u64,
+    after: u64,
+    // what is left to be read before the film shows, and the rounds from the first on that carry something, in a row;
+    carry: u64,
+    rounds: u64,
+    // of the second: its peak, and what is left to be read before the film shows.
+    peak: u64,
+    left: u64,
+}
+
+// What a pass says of the first reserve's film and of the second.
+struct Findings {
+    needed: u64,
+    serves: bool,
+}
+
+// r where h is more than the peak so far, else what stood.
+fn later(most: u64, h: u64, after: u64, r: u64) -> u64
+    ensures { λ q. ⌜ q ≡ cond (ltb most h) r after ⌝ }
 {
-    let mut c: u64 = 0;
+    if most < h { r } else { after }
+}
+
+// One more round in a row, if something is carried.
+fn run_on(carry: u64, rounds: u64) -> u64
+    requires { ⌜ rounds < 2 ^ 63 ⌝ }
+    ensures { λ q. ⌜ (q ≡ cond (ltb 0 carry) (rounds + 1) 0) × (q ≤ rounds + 1) ⌝ }
+{
+    if 0 < carry { rounds + 1 } else { 0 }
+}
+
+// One pass at the reserves b and mid.
+fn try_two(file: &[u8], at: usize, n: usize, b: u64, mid: u64) -> Tried
+    requires { ⌜ (InRange (now file) at n 0 b) × (InRange (now file) at n 0 mid) ⌝ }
+    ensures { λ r. ⌜ Tries (sizes (now (file .entry)) at n) b mid r ⌝ }
+{
+    let mut carry: u64 = 0;
+    let mut rounds: u64 = 0;
+    let mut most: u64 = 0;
+    let mut after: u64 = 0;
+    let mut left: u64 = 0;
+    let mut peak: u64 = 0;
     let mut i = n;
     while 0 < i {
         i -= 1;
-        let held = size_at(file, at + 4 * i) + c;
-        if cap < held {
-            return false;
-        }
-        c = less(held, b);
+        let x = size_at(file, at + 4 * i);
+        let h = x + carry;
+        after = later(most, h, after, rounds);
+        most = larger(most, h);
+        carry = carry_before(x, carry, b);
+        rounds = run_on(carry, rounds);
+        peak = larger(peak, x + left);
+        left = carry_before(x, left, mid);
     }
-    c <= (p as u64) * b
+    Tried {
+        most,
+        after,
+        carry,
+        rounds,
+        peak,
+        left,
+    }
 }
 
-// The least reserve, where `high` has such a schedule.
+// b and `over` shared out over some rounds, rounded up.
+fn raise(b: u64, over: u64, rounds: u64) -> u64
+    requires { ⌜ b + over < 2 ^ 63 ⌝ }
+    ensures { λ r. ⌜ r ≡ raised b over rounds ⌝ }
+{
+    if 0 < over {
+        b + (over - 1) / larger(rounds, 1) + 1
+    } else {
+        b
+    }
+}
+
+// By one pass, what the film needs at least, which is b itself where b serves, and whether mid serves: whether it has a schedule
+// with peak at most the cap.
+fn trial(file: &[u8], at: usize, n: usize, p: usize, cap: u64, b: u64, mid: u64) -> Findings
+    requires { ⌜ (InRange (now file) at n p b) × (InRange (now file) at n p mid) ⌝ }
+    ensures { λ r. ⌜ (r .needed ≡ needed (sizes (now (file .entry)) at n) p cap b) × (r .serves ≡ servesBy (sendsAt (now (file .entry)) at n p) cap mid) ⌝ }
+{
+    let t = try_two(file, at, n, b, mid);
+    let ahead = p as u64;
+    let held = raise(b, less(t.most, cap), t.after);
+    let read = raise(b, less(t.carry, ahead * b), ahead + t.rounds);
+    let over = larger(less(t.peak, cap), less(t.left, ahead * mid));
+    Findings {
+        needed: larger(held, read),
+        serves: over == 0,
+    }
+}
+
+// The least reserve, where `high` has such a schedule: by bisection, whose lower end moves on to what is found to be needed.
 fn search(file: &[u8], at: usize, n: usize, p: usize, cap: u64, high: u64) -> u64
     requires { ⌜ (InRange (now file) at n p high) × (Serves (sendsAt (now file) at n p) cap high) ⌝ }
     ensures { λ r. ⌜ Least (sendsAt (now (file .entry)) at n p) cap r ⌝ }
@@ -68,10 +150,15 @@ fn search(file: &[u8], at: usize, n: usize, p: usize, cap: u64, high: u64) -> u6
     let mut hi = high;
     while lo < hi {
         let mid = lo + (hi - lo) / 2;
-        if serves(file, at, n, p, cap, mid) {
+        let t = trial(file, at, n, p, cap, lo, mid);
+        if t.needed <= lo {
+            return lo;
+        }
+        if t.serves {
             hi = mid;
+            lo = t.needed;
         } else {
-            lo = mid + 1;
+            lo = larger(t.needed, mid + 1);
         }
     }
     lo

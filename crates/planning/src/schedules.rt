@@ -6,7 +6,10 @@ ghost use lib.ListN.{length, drop};
 ghost use Rattle.laws.specs.Sums.{sum};
 ghost use Rattle.films.specs.Sizes.{sizes, Stored};
 ghost use Rattle.retrieval.specs.JustInTime.{justInTime};
-ghost use Rattle.retrieval.specs.Stored.{sendsAt, maxHeld};
+ghost use Rattle.retrieval.specs.Carry.{carry};
+ghost use Rattle.retrieval.specs.Stored.{sendsAt};
+ghost use Rattle.retrieval.specs.Sheet.{onto, waiting};
+ghost use Rattle.retrieval.specs.SheetLaws.{ontoFrom};
 ghost use Rattle.planning.specs.Written.{Writes};
 ghost use Rattle.planning.specs.Answers.{Planned, scheduled, scheduleOut};
 use films::catalogue::catalogue;
@@ -20,10 +23,10 @@ use limits::refusals::NO_ROOM;
 use limits::refusals::NO_SCHEDULE;
 use limits::refusals::PREFETCH;
 use limits::refusals::RESERVE;
-use retrieval::exists;
-use retrieval::larger;
+use retrieval::Total;
+use retrieval::carry_before;
+use retrieval::film_total;
 use retrieval::less;
-use retrieval::send_at;
 
 // The answer of a call for a schedule: a refusal's number, or how many totals are written.
 pub enum Scheduled {
@@ -31,35 +34,54 @@ pub enum Scheduled {
     Written(u64),
 }
 
-// The film's total: the sum of its n sizes.
-fn total(file: &[u8], at: usize, n: usize) -> u64
-    requires { ⌜ Stored (now file) at n ⌝ }
-    ensures { λ r. ⌜ (r ≡ sum (sizes (now (file .entry)) at n)) × (r ≤ maxHeld) ⌝ }
+// Writes the just-in-time totals of the rounds that show to their places, the last one first: of a round, what the film has sent by
+// its end and the carry of the rounds after it. Gives the carry of them all.
+fn write_shown(
+    out: &mut [u64],
+    file: &[u8],
+    at: usize,
+    n: usize,
+    p: usize,
+    b: u64,
+    total: u64,
+) -> u64
+    requires { ⌜ (Writes (now out) (now file) at n p b) × (total ≡ sum (sizes (now file) at n)) ⌝ }
+    ensures { λ r. ⌜ (now (out .exit) ≡ ontoFrom p (λ x a. a) (now (out .entry)) (justInTime b 0 (sendsAt (now (file .entry)) at n p))) × (r ≡ carry b (sizes (now (file .entry)) at n)) ⌝ }
 {
-    let mut bytes: u64 = 0;
+    let mut sent = total;
+    let mut c: u64 = 0;
     let mut i = n;
     while 0 < i {
         i -= 1;
-        bytes += size_at(file, at + 4 * i);
+        out[p + i] = sent + c;
+        let x = size_at(file, at + 4 * i);
+        sent -= x;
+        c = carry_before(x, c, b);
     }
-    bytes
+    c
 }
 
-// Writes the just-in-time totals of a film to the first p + n places of the list, by the paper's recursion from the last round
-// backward: `sent` is what the film has sent by the end of a round, `due` the total after it.
-fn write_totals(out: &mut [u64], file: &[u8], at: usize, n: usize, p: usize, b: u64)
-    requires { ⌜ Writes (now out) (now file) at n p b ⌝ }
-    ensures { λ _. ⌜ now (out .exit) ≡ justInTime b 0 (sendsAt (now (file .entry)) at n p) ++ drop (p + n) (now (out .entry)) ⌝ }
+// Writes the totals of p pre-fetch rounds to the first places, where c is the carry of the rounds after them.
+fn write_ahead(out: &mut [u64], p: usize, b: u64, c: u64)
+    requires { ⌜ p ≤ length (now out) ⌝ }
+    ensures { λ _. ⌜ now (out .exit) ≡ onto (λ x a. a) (now (out .entry)) (waiting b c p) ⌝ }
 {
-    let mut sent = total(file, at, n);
-    let mut due = sent;
-    let mut k = p + n;
+    let mut left = c;
+    let mut k = p;
     while 0 < k {
         k -= 1;
-        due = larger(sent, less(due, b));
-        out[k] = due;
-        sent -= send_at(file, at, n, p, k);
+        out[k] = left;
+        left = less(left, b);
     }
+}
+
+// Writes the just-in-time totals of a film to the first p + n places of the list.
+fn write_totals(out: &mut [u64], file: &[u8], at: usize, n: usize, p: usize, b: u64, total: u64)
+    requires { ⌜ (Writes (now out) (now file) at n p b) × (total ≡ sum (sizes (now file) at n)) ⌝ }
+    ensures { λ _. ⌜ now (out .exit) ≡ justInTime b 0 (sendsAt (now (file .entry)) at n p) ++ drop (p + n) (now (out .entry)) ⌝ }
+{
+    let left = write_shown(out, file, at, n, p, b, total);
+    write_ahead(out, p, b, left);
 }
 
 // The answer for a film whose n sizes stand at an offset of the file. Nothing is written before the last question is put.
@@ -77,10 +99,11 @@ fn plan(file: &[u8], at: usize, n: usize, p: u64, b: u64, out: &mut [u64]) -> Sc
     if out.len() < ahead + n {
         return Scheduled::Refused(NO_ROOM);
     }
-    if !exists(file, at, n, ahead, b) {
+    let total = film_total(file, at, n, ahead, b);
+    let Total::Bytes(bytes) = total else {
         return Scheduled::Refused(NO_SCHEDULE);
-    }
-    write_totals(out, file, at, n, ahead, b);
+    };
+    write_totals(out, file, at, n, ahead, b, bytes);
     Scheduled::Written((ahead + n) as u64)
 }
 

@@ -4,9 +4,11 @@ use mathlib.Core.Path.{_≡_}
 use Prim.Native.Nat.{ℕ, _≤_, _+_, _-_, _/_}
 use native.Mathlib.Omega.{arith}
 use borrow.Author.Needs.{needs}
+use Rattle.films.specs.Sizes.{sizes}
 use Rattle.retrieval.specs.LeastReserve.{Serves}
 use Rattle.retrieval.specs.ReserveLaws.{servesBy-yes, servesBy-no, serves-above}
 use Rattle.retrieval.specs.Stored.{sendsAt}
+use Rattle.planning.specs.Slopes.{needed-least, needed-serves}
 use Rattle.planning.proofs.reserves.search.Statement.{statement}
 use Rattle.planning.proofs.reserves.search.Tie as tie
 
@@ -29,44 +31,79 @@ sub-mid c = search needs
 add-mid : tie.Need-add-mid Inv-loop μ-loop
 add-mid c = search needs
 
-serves-requires : tie.Need-serves-requires Inv-loop μ-loop
-serves-requires c κs = search needs
-
-loop-less : tie.Need-loop-less Inv-loop μ-loop
-loop-less c = search needs
-
-loop-again : tie.Need-loop-again Inv-loop μ-loop
-loop-again c =
-    let l = c .before .before .before .loop in
-    let a = c .before .before .before .before .before .args in
-    let mid = l .lo + (l .hi - l .lo) / 2 in (
-      omega arith,
-      omega arith,
-      servesBy-yes (c .before .serves .result) (sendsAt (a .file .now) (a .at) (a .n) (a .p)) (a .cap) mid (c .before .serves .ensures) (c .if1 .taken),
-      l .inv .3,
-    )
-
-add-lo : tie.Need-add-lo Inv-loop μ-loop
-add-lo c = search needs
-
-loop-less-2 : tie.Need-loop-less-2 Inv-loop μ-loop
-loop-less-2 c = search needs
-
-loop-again-2 : tie.Need-loop-again-2 Inv-loop μ-loop
-loop-again-2 c =
-    let l = c .before .before .before .loop in
-    let a = c .before .before .before .before .before .args in
-    let xs = sendsAt (a .file .now) (a .at) (a .n) (a .p) in
-    let mid = l .lo + (l .hi - l .lo) / 2 in (
-      omega arith,
-      omega arith,
-      l .inv .2,
-      serves-above xs (a .cap) mid
-          (servesBy-no (c .before .serves .result) xs (a .cap) mid (c .before .serves .ensures) (c .if1 .left)),
+trial-requires : tie.Need-trial-requires Inv-loop μ-loop
+trial-requires c κs =
+    let film = c .before .before .before .pre .0 in (
+      record { stored = film .stored; prefetch = film .prefetch; reserve = omega arith },
+      record { stored = film .stored; prefetch = film .prefetch; reserve = omega arith },
     )
 
 returns : tie.Need-returns Inv-loop μ-loop
 returns c =
+    let a = c .before .before .before .before .before .before .args in
+    let l = c .before .before .before .before .loop in
+    let t = c .before .before .trial in
+    let xs = sizes (a .file .now) (a .at) (a .n) in
+    record { serves = needed-serves xs (a .p) (a .cap) (l .lo) (omega (arith, t .ensures .0)); least = l .inv .3 }
+
+loop-less : tie.Need-loop-less Inv-loop μ-loop
+loop-less c =
+    let a = c .before .before .before .before .before .before .before .args in
+    let l = c .before .before .before .before .before .loop in
+    let t = c .before .before .before .trial in
+    let s = a .file .now in
+    let mid = l .lo + (l .hi - l .lo) / 2 in
+    let low : (b : ℕ) → Serves (sendsAt s (a .at) (a .n) (a .p)) (a .cap) b → t .result .needed ≤ b =
+    λ b v. rw (t .ensures .0) (needed-least (sizes s (a .at) (a .n)) (a .p) (a .cap) (l .lo) b (l .inv .3 b v) v) in
+    let fits : Serves (sendsAt s (a .at) (a .n) (a .p)) (a .cap) mid =
+    servesBy-yes (t .result .serves) (sendsAt s (a .at) (a .n) (a .p)) (a .cap) mid (t .ensures .1) (c .if2 .taken) in
+    omega (arith, low mid fits)
+
+loop-again : tie.Need-loop-again Inv-loop μ-loop
+loop-again c =
+    let a = c .before .before .before .before .before .before .before .args in
+    let l = c .before .before .before .before .before .loop in
+    let t = c .before .before .before .trial in
+    let s = a .file .now in
+    let mid = l .lo + (l .hi - l .lo) / 2 in
+    let low : (b : ℕ) → Serves (sendsAt s (a .at) (a .n) (a .p)) (a .cap) b → t .result .needed ≤ b =
+    λ b v. rw (t .ensures .0) (needed-least (sizes s (a .at) (a .n)) (a .p) (a .cap) (l .lo) b (l .inv .3 b v) v) in
+    let fits : Serves (sendsAt s (a .at) (a .n) (a .p)) (a .cap) mid =
+    servesBy-yes (t .result .serves) (sendsAt s (a .at) (a .n) (a .p)) (a .cap) mid (t .ensures .1) (c .if2 .taken) in
+    (low mid fits, omega arith, fits, low)
+
+add-larger : tie.Need-add-larger Inv-loop μ-loop
+add-larger c = search needs
+
+larger-requires : tie.Need-larger-requires Inv-loop μ-loop
+larger-requires c κs = search needs
+
+loop-less-2 : tie.Need-loop-less-2 Inv-loop μ-loop
+loop-less-2 c =
+    let a = c .before .before .before .before .before .before .before .before .args in
+    let l = c .before .before .before .before .before .before .loop in
+    let t = c .before .before .before .before .trial in
+    let s = a .file .now in
+    let mid = l .lo + (l .hi - l .lo) / 2 in
+    omega arith
+
+loop-again-2 : tie.Need-loop-again-2 Inv-loop μ-loop
+loop-again-2 c =
+    let a = c .before .before .before .before .before .before .before .before .args in
+    let l = c .before .before .before .before .before .before .loop in
+    let t = c .before .before .before .before .trial in
+    let s = a .file .now in
+    let mid = l .lo + (l .hi - l .lo) / 2 in
+    let low : (b : ℕ) → Serves (sendsAt s (a .at) (a .n) (a .p)) (a .cap) b → t .result .needed ≤ b =
+    λ b v. rw (t .ensures .0) (needed-least (sizes s (a .at) (a .n)) (a .p) (a .cap) (l .lo) b (l .inv .3 b v) v) in
+    let none = servesBy-no (t .result .serves) (sendsAt s (a .at) (a .n) (a .p)) (a .cap) mid (t .ensures .1) (c .before .if2 .left) in
+    let above = serves-above (sendsAt s (a .at) (a .n) (a .p)) (a .cap) mid none in
+    let both : (b : ℕ) → Serves (sendsAt s (a .at) (a .n) (a .p)) (a .cap) b → c .larger .result ≤ b =
+    λ b v. omega (arith, low b v, above b v) in
+    (both (l .hi) (l .inv .2), l .inv .1, l .inv .2, both)
+
+returns-2 : tie.Need-returns-2 Inv-loop μ-loop
+returns-2 c =
     let l = c .before .loop in
     let e : l .hi ≡ l .lo = omega arith in
     record { serves = rw e at (l .inv .2); least = l .inv .3 }
@@ -80,10 +117,12 @@ search-spec =
     loop-holds
     sub-mid
     add-mid
-    serves-requires
+    trial-requires
+    returns
     loop-less
     loop-again
-    add-lo
+    add-larger
+    larger-requires
     loop-less-2
     loop-again-2
-    returns)
+    returns-2)

@@ -1,0 +1,13 @@
+-- `planning::reserves::later` meets its contract, by its test. Assumes nothing.
+use borrow.Author.Tests.{lt-ltb, le-ltb}
+use Rattle.planning.proofs.reserves.later.Statement.{statement}
+use Rattle.planning.proofs.reserves.later.Tie as tie
+
+returns : tie.Need-returns
+returns c = simp (lt-ltb _ _ (c .if1 .taken))
+
+returns-2 : tie.Need-returns-2
+returns-2 c = simp (le-ltb _ _ (c .if1 .left))
+
+pub later-spec : {M : Type 1} → statement M
+later-spec = tie.close (tie.spec returns returns-2)
