@@ -3,7 +3,6 @@ use Prim.Native.Nat.{_+_, _-_}
 use native.Mathlib.Omega.{arith}
 use borrow.Author.Needs.{needs}
 use borrow.Author.Tests.{le-leb, lt-leb}
-use Rattle.limits.specs.Bounds.{maxRounds}
 use Rattle.load.specs.Lists.{ltb-same}
 use Rattle.playing.specs.OpenLaws.{mayBeOpen}
 use Rattle.playing.proofs.report.may_be_open.Statement.{statement}
@@ -33,7 +32,7 @@ unfolding mayBeOpen
 returns-2 c =
     let a = c .before .before .before .before .args in
     rw (le-leb (a .b .start) (a .t) (omega arith))
-    (ltb-same (a .t - a .b .start) (a .b .prefetch + maxRounds) (a .t) (a .b .start + a .b .prefetch + maxRounds) (λ u. omega arith)
+    (ltb-same (a .t - a .b .start) (a .b .prefetch + a .most) (a .t) (a .b .start + a .b .prefetch + a .most) (λ u. omega arith)
     (λ u. omega arith))
 
 pub may-be-open-spec : {M : Type 1} → statement M

@@ -4,7 +4,7 @@
 use mathlib.Core.Path.{_≡_, refl, sym, ap, _∙_}
 use mathlib.Core.Bool.{true}
 use mathlib.Core.Logic.{⊎-elim}
-use Prim.Native.Nat.{ℕ, _-_}
+use Prim.Native.Nat.{ℕ, _-_, _≤_}
 use native.Mathlib.Omega.{arith}
 use borrow.Author.Needs.{needs}
 use lib.ListN.{length, take, getD}
@@ -21,25 +21,28 @@ use Rattle.playing.specs.Lines.{padded, lineAt}
 use Rattle.playing.specs.Ready.{row-tied, row-exists, row-playable}
 use Rattle.playing.specs.LineLaws.{line-tied}
 use Rattle.playing.specs.CabLaws.{cabsIn, cabs-tied, joined-end}
-use Rattle.playing.specs.OpenLaws.{open-never}
+use Rattle.playing.specs.OpenLaws.{open-never, stream-short}
 use Rattle.playing.specs.ReportLaws.{Reported, reported-open, reported-shut}
 use Rattle.playing.proofs.report.report_of.Statement.{statement}
 use Rattle.playing.proofs.report.report_of.Tie as tie
 
 abbrev Inv-loop : tie.InvT-loop
-Inv-loop file c day rows count lines₀ k₀ taken₀ i₀ lines k taken i = Reported (settingAt file day) (day .now) rows count lines k taken i
+Inv-loop file c day rows count most lines₀ k₀ taken₀ i₀ lines k taken i = Reported (settingAt file day) (day .now) rows count lines k taken i
 
 abbrev μ-loop : tie.MeasureT-loop
-μ-loop file c day rows count lines₀ k₀ taken₀ i₀ lines k taken i = count - i
+μ-loop file c day rows count most lines₀ k₀ taken₀ i₀ lines k taken i = count - i
+
+most-rounds-requires : tie.Need-most-rounds-requires Inv-loop μ-loop
+most-rounds-requires c κs = search needs
 
 loop-holds : tie.Need-loop-holds Inv-loop μ-loop
 loop-holds c = record { some = omega arith; few = omega arith; number = refl; lines = refl; cabs = refl }
 
 mul-b : tie.Need-mul-b Inv-loop μ-loop
-mul-b c = omega (arith, c .before .before .before .pre .few)
+mul-b c = omega (arith, c .before .before .before .before .pre .few)
 
 array-copy-out-b : tie.Need-array-copy-out-b Inv-loop μ-loop
-array-copy-out-b c = omega (arith, c .before .before .before .pre .few)
+array-copy-out-b c = omega (arith, c .before .before .before .before .pre .few)
 
 may-be-open-requires : tie.Need-may-be-open-requires Inv-loop μ-loop
 may-be-open-requires c κs = search needs
@@ -54,7 +57,7 @@ line-of-requires : tie.Need-line-of-requires Inv-loop μ-loop
 line-of-requires c κs =
     let made = c .before .before .stream-of in
     let l = c .before .before .before .before .before .before .before .loop in
-    let start = c .before .before .before .before .before .before .before .before .before in
+    let start = c .before .before .before .before .before .before .before .before .before .before in
     let a = start .args in
     let few = start .pre .few in
     let x = made .result in
@@ -65,12 +68,12 @@ line-of-requires c κs =
 mul-lines : tie.Need-mul-lines Inv-loop μ-loop
 mul-lines c =
     let l = c .before .before .before .before .before .before .before .before in
-    omega (arith, l .loop .inv .few, l .before .before .pre .few)
+    omega (arith, l .loop .inv .few, l .before .before .before .pre .few)
 
 array-set-from-lines : tie.Need-array-set-from-lines Inv-loop μ-loop
 array-set-from-lines c =
     let l = c .before .before .before .before .before .before .before .before in
-    omega (arith, l .loop .inv .few, l .before .before .pre .few)
+    omega (arith, l .loop .inv .few, l .before .before .before .pre .few)
 
 add-k : tie.Need-add-k Inv-loop μ-loop
 add-k c = search needs
@@ -87,7 +90,8 @@ loop-less c = search needs
 loop-again : tie.Need-loop-again Inv-loop μ-loop
 loop-again c =
     let l = c .before .before .before .before .loop in
-    let start = c .before .before .before .before .before .before in
+    let asked = c .before .before .before .before .before .most-rounds in
+    let start = c .before .before .before .before .before .before .before in
     let a = start .args in
     let f = a .file .now in
     let few = start .pre .few in
@@ -97,6 +101,8 @@ loop-again c =
     let x = streamOf (a .c) b in
     let tied = row-tied f (a .c) (a .day) (a .t4) (start .pre) (omega arith) (l .i) (omega arith) x refl in
     let ex = row-exists f (a .c) (a .day) (a .t4) (start .pre) (omega arith) (l .i) (omega arith) x refl in
+    let most = asked .result in
+    let short : x .rounds ≤ most = omega (arith, stream-short (a .c) b, asked .ensures) in
     let seen : openAt S t b ≡ openIn t x = tied-open S f b x tied t in
     let shut = reported-shut S t (a .t4) (a .day .count) (omega arith) (l .lines) (l .k) (l .taken) (l .i) (omega arith) (l .inv)
     (c .if1 .lines) (c .if1 .k) (c .if1 .taken) in
@@ -111,7 +117,7 @@ loop-again c =
     (w .4 .result) (w .5 .result) few (seen ∙ yes) line cabs (w .6) (w .7) (w .8))
     (⊎-elim
     (λ w. shut (seen ∙ ap (openIn t) (sym (w .1 .ensures)) ∙ sym (w .2 .ensures) ∙ w .3 .left) (w .4) (w .5) (w .6))
-    (λ w. shut (open-never S f t b x tied (sym (c .before .may-be-open .ensures) ∙ w .0 .left)) (w .1) (w .2) (w .3)))
+    (λ w. shut (open-never S f most t b x tied short (sym (c .before .may-be-open .ensures) ∙ w .0 .left)) (w .1) (w .2) (w .3)))
     (c .if1 .came)
 
 count-of-requires : tie.Need-count-of-requires Inv-loop μ-loop
@@ -120,7 +126,7 @@ count-of-requires c κs = search needs
 returns : tie.Need-returns Inv-loop μ-loop
 returns c =
     let l = c .before .before .loop in
-    let a = c .before .before .before .before .args in
+    let a = c .before .before .before .before .before .args in
     let S = settingAt (a .file .now) (a .day) in
     let e : l .i ≡ a .day .count = omega (arith, l .inv .some) in
     let same = ap (λ (n : ℕ). linesOf S (a .day .now) (take n (a .t4))) e in
@@ -133,6 +139,7 @@ report-of-spec =
     (tie.spec
     Inv-loop
     μ-loop
+    most-rounds-requires
     loop-holds
     mul-b
     array-copy-out-b
