@@ -30,10 +30,11 @@ use Rattle.playing.specs.Contract.{linesIn, linesFor, Plays}
 use Rattle.playing.specs.declared.Played as Play
 use Rattle.replay.specs.Log.{answerWords, linesWords, loggedWords, Wrote}
 use Rattle.replay.specs.Writing.{wrote-then, lines-length}
-use Rattle.replay.specs.DeskRun.{blankReport, refusalOf, outcomeWords, carried, Took, Kept, Steps, Refuses}
+use Rattle.replay.specs.DeskRun.{blankReport, refusalOf, outcomeWords, carried, Took, Kept, Steps, asStep, TriesPlay, Refuses}
 use Rattle.replay.specs.declared.journal.Entry.{Entry}
 use Rattle.replay.specs.declared.journal.Entry.the-variants as E
 use Rattle.replay.specs.declared.step.Stepped.{Stepped}
+use Rattle.replay.specs.declared.step.PlayStep.{PlayStep}
 
 -- an answer has three words
 pub answer-length : (a : Answer) → length (answerWords a) ≡ 3
@@ -255,3 +256,15 @@ module _ (f : List ℕ) (day : Day) (rows : List Booking) (places room : ℕ) (x
                 same-state (ap (λ (u : Day). u .now) y) (ap (λ (u : Day). u .count) y) refl z refl refl refl
                 ∙ sym (plays .state opens reserves helds blank e);
           })
+
+-- ---- with the records as they were
+
+module _ (S : Setting) (day : Day) (rows : List Booking) (places : ℕ) (e : Entry) (old : List ℕ) (at : ℕ) (r : PlayStep) (log′ : List ℕ) where
+  -- nothing is done
+  pub tries-none : r .done ≡ false → log′ ≡ old → TriesPlay S day rows places e old at r log′
+  tries-none f l = record { took = λ t. absurd (true≢false (sym t ∙ f)); kept = λ u. l }
+
+  -- a step, whatever the sheet
+  pub tries-step : ((opens reserves helds : List ℕ) → Steps S (stateOf day rows places opens reserves helds) e old at (asStep r rows) log′ opens reserves helds)
+      → TriesPlay S day rows places e old at r log′
+  tries-step s = record { took = λ t o v h. s o v h .took t; kept = λ f. s [] [] [] .kept f .log }

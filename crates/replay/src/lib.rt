@@ -13,6 +13,7 @@ use model::Booking;
 use model::Day;
 use opening::open;
 use step::step;
+use step::try_play;
 ghost use mathlib.Core.Path.{_≡_};
 ghost use mathlib.Core.List.{List};
 ghost use lib.ListN.{length};
@@ -75,6 +76,14 @@ fn run(
     let mut i = 0;
     while i < count {
         let entry = entry_at(journal, i);
+        let played = try_play(file, c, today, list, places, entry, log, at);
+        if played.done {
+            let after = played.day;
+            today = after;
+            at = played.next;
+            i += 1;
+            continue;
+        }
         let stepped = step(
             file,
             c,

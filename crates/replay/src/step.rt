@@ -15,17 +15,19 @@ use model::Day;
 use model::Request;
 use playing::play_standing;
 ghost use mathlib.Core.Path.{_≡_};
+ghost use mathlib.Core.Bool.{false};
 ghost use mathlib.Core.List.{List};
 ghost use Prim.Native.Nat.{ℕ, _+_, _≤_};
 ghost use lib.ListN.{length};
 ghost use Rattle.laws.specs.Questions.{refusal};
+ghost use Rattle.films.specs.Questions.{verdict};
 ghost use Rattle.films.specs.Catalogue.{catalogueOf};
 ghost use Rattle.model.specs.Code.{stateOf};
 ghost use Rattle.model.specs.Claim.{InBetween};
 ghost use Rattle.questions.specs.Given.{settingAt};
 ghost use Rattle.questions.specs.Numbers.{standingAsks};
 ghost use Rattle.playing.specs.Contract.{linesIn};
-ghost use Rattle.replay.specs.DeskRun.{refusalOf, Refuses, Steps};
+ghost use Rattle.replay.specs.DeskRun.{refusalOf, Refuses, asStep, Steps, TriesPlay};
 ghost use Rattle.replay.specs.declared.journal.Entry.the-variants.{Book, Drop, Play};
 
 // What an entry leaves: whether it was done, the place in the log after it, the day and the records' places.
@@ -34,6 +36,13 @@ pub struct Stepped {
     pub next: usize,
     pub day: Day,
     pub rows: [Booking; MAX_BOOKINGS],
+}
+
+// What a PLAY leaves, with the records as they were.
+pub struct PlayStep {
+    pub done: bool,
+    pub next: usize,
+    pub day: Day,
 }
 
 // BOOK, where the log has three places left and the questions before booking's own have passed.
@@ -120,31 +129,29 @@ fn step_play(
     room: u64,
     log: &mut [u64],
     at: usize,
-) -> Stepped
+) -> PlayStep
     requires { ⌜ (at + 3 ≤ length (now log)) × (c ≡ catalogueOf (now file)) × (refusal (standingAsks (now file) day rows places (day .rounds) (day .rounds) (day .rounds)) ≡ 0) ⌝ }
-    ensures { λ r. ⌜ ((opens reserves helds : List ℕ) → Steps (settingAt (now (file .entry)) day) (stateOf day rows places opens reserves helds) (Play room) (now (log .entry)) at r (now (log .exit)) opens reserves helds) ⌝ }
+    ensures { λ r. ⌜ ((opens reserves helds : List ℕ) → Steps (settingAt (now (file .entry)) day) (stateOf day rows places opens reserves helds) (Play room) (now (log .entry)) at (asStep r rows) (now (log .exit)) opens reserves helds) ⌝ }
 {
     let played = play_standing(file, c, day, rows, places, room);
     let answer = played.answer;
     let count = line_count(answer);
     let fitting = ((log.len() - at - ANSWER_WORDS) / LINE_WORDS) as u64;
     if fitting < count {
-        return Stepped {
+        return PlayStep {
             done: false,
             next: at,
             day,
-            rows,
         };
     }
     let after = played.day;
     let lines = played.lines;
     let from = write_answer(log, at, answer);
     let next = write_lines(log, from, lines, count as usize);
-    Stepped {
+    PlayStep {
         done: true,
         next,
         day: after,
-        rows,
     }
 }
 
@@ -241,7 +248,58 @@ pub fn step(
                 helds,
             )
         }
-        Entry::Play(room) => step_play(file, c, day, rows, places, room, log, at),
+        Entry::Play(room) => {
+            let played = step_play(file, c, day, rows, places, room, log, at);
+            let after = played.day;
+            Stepped {
+                done: played.done,
+                next: played.next,
+                day: after,
+                rows,
+            }
+        }
         Entry::Unknown => step_refused(day, rows, log, at, COMMAND),
+    }
+}
+
+// Nothing done.
+fn not_played(day: Day, at: usize) -> PlayStep
+    ensures { λ r. ⌜ r .done ≡ false ⌝ }
+{
+    PlayStep {
+        done: false,
+        next: at,
+        day,
+    }
+}
+
+// Carries an entry out as `step` does where it is a PLAY, the film file is accepted and its words fit; else nothing is done. PLAY
+// leaves the records as they are: they are not given back, so that a played round does not copy them.
+pub fn try_play(
+    file: &[u8],
+    c: Catalogue,
+    day: Day,
+    rows: [Booking; MAX_BOOKINGS],
+    places: u64,
+    entry: Entry,
+    log: &mut [u64],
+    at: usize,
+) -> PlayStep
+    requires { ⌜ (at ≤ length (now log)) × (c ≡ catalogueOf (now file)) × (verdict (now file) ≡ 0 → refusal (standingAsks (now file) day rows places (day .rounds) (day .rounds) (day .rounds)) ≡ 0) ⌝ }
+    ensures { λ r. ⌜ TriesPlay (settingAt (now (file .entry)) day) day rows places entry (now (log .entry)) at r (now (log .exit)) ⌝ }
+{
+    let left = log.len() - at;
+    if left < ANSWER_WORDS {
+        return not_played(day, at);
+    }
+    let verdict = c.verdict;
+    if verdict != 0 {
+        return not_played(day, at);
+    }
+    match entry {
+        Entry::Play(room) => step_play(file, c, day, rows, places, room, log, at),
+        Entry::Book(_) => not_played(day, at),
+        Entry::Drop(_) => not_played(day, at),
+        Entry::Unknown => not_played(day, at),
     }
 }

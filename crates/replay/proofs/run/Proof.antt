@@ -1,12 +1,15 @@
 -- `run` meets its contract. The loop's invariant: the whole run is that of the entries done, whose words stand in the log, and of
 -- the entries that follow, and the day is the plain day's picture. The measure is the entries that follow. Assumes nothing.
+use mathlib.Core.Path.{refl, ap, _∙_}
 use Prim.Native.Nat.{_-_}
 use native.Mathlib.Omega.{arith}
 use borrow.Author.Needs.{needs}
+use lib.ListN.{length}
 use borrow.Author.Tests.{not-true, not-false}
 use Rattle.model.specs.Code.{stateOf}
 use Rattle.questions.specs.Given.{settingAt}
-use Rattle.replay.specs.Pictured.{pictured-between}
+use Rattle.replay.specs.DeskRun.{asStep}
+use Rattle.replay.specs.Pictured.{pictured-between, between-plays}
 use Rattle.replay.specs.LoopLaws.{Going, going-first, going-next, going-full, going-end}
 use Rattle.replay.proofs.run.Statement.{statement}
 use Rattle.replay.proofs.run.Tie as tie
@@ -28,45 +31,21 @@ loop-holds c =
 entry-at-requires : tie.Need-entry-at-requires Inv-loop μ-loop
 entry-at-requires c κs = search needs
 
-step-requires : tie.Need-step-requires Inv-loop μ-loop
-step-requires c κs =
-    let turn = c .before .before .before .before .before in
-    let l = turn .before .loop in
-    let start = turn .before .before .before .before .before .before .before .before in
-    let a = start .args in (
+try-play-requires : tie.Need-try-play-requires Inv-loop μ-loop
+try-play-requires c κs =
+    let l = c .before .before .before .loop in
+    let start = c .before .before .before .before .before .before .before .before .before .before in
+    let a = start .args in
+    let S = settingAt (a .file .now) (l .today) in
+    let between = pictured-between S (stateOf (l .today) (l .list) (a .places) (l .opens) (l .reserves) (l .helds)) (l .inv .pictured) in (
       l .inv .placed,
       start .pre .0,
-      pictured-between (settingAt (a .file .now) (l .today)) (stateOf (l .today) (l .list) (a .places) (l .opens) (l .reserves) (l .helds)) (l .inv .pictured),
+      λ accepted. between-plays (a .file .now) (l .today) (l .list) (a .places) (l .opens) (l .reserves) (l .helds) accepted between,
     )
-
-same-length : tie.Need-same-length Inv-loop μ-loop
-same-length c = search needs
-
-same-length-2 : tie.Need-same-length-2 Inv-loop μ-loop
-same-length-2 c = search needs
-
-same-length-3 : tie.Need-same-length-3 Inv-loop μ-loop
-same-length-3 c = search needs
-
-same-length-4 : tie.Need-same-length-4 Inv-loop μ-loop
-same-length-4 c = search needs
-
-returns : tie.Need-returns Inv-loop μ-loop
-returns c =
-    let called = c .before .before .before .before .before .before .before .before .before .before in
-    let turn = called .before .before .before .before .before .before in
-    let l = turn .before .loop in
-    let start = turn .before .before .before .before .before .before .before .before in
-    let a = start .args in
-    let s = rw (called .before .before .before .before .before .entry-at .ensures) at (called .step .ensures) in
-    let last = called .step .last .1 .1 .1 .1 .1 .1 in
-    going-full (a .file .now) (a .day) (a .rows) (a .places) (a .journal .now) (a .log .now) (a .opens .now) (a .reserves .now) (a .helds .now) _
-    (l .log) (l .opens) (l .reserves) (l .helds) (l .today) (l .list) (l .at) (l .i) (l .inv)
-    (turn .loop-test .taken) (called .step .result) (last .0) (last .1 .1 .0) (last .1 .1 .1 .0) (last .1 .1 .1 .1 .0) (s .kept (not-true _ (c .if1 .taken)))
 
 add-i : tie.Need-add-i Inv-loop μ-loop
 add-i c =
-    let turn = c .before .before .before .before .before .before .before .before .before .before .before .before .before .before .before .before .before .before in
+    let turn = c .before .before .before .before .before .before .before in
     let start = turn .before .before .before .before .before .before .before .before in
     record { fits = omega (arith, turn .loop-test .taken, start .good) }
 
@@ -75,17 +54,97 @@ loop-less c = search needs
 
 loop-again : tie.Need-loop-again Inv-loop μ-loop
 loop-again c =
-    let called = c .before .before .before .before .before .before .before .before .before .before .before .before in
-    let turn = called .before .before .before .before .before .before in
+    let called = c .before .before .before .before in
+    let turn = called .before .before .before in
     let l = turn .before .loop in
     let start = turn .before .before .before .before .before .before .before .before in
     let a = start .args in
-    let s = rw (called .before .before .before .before .before .entry-at .ensures) at (called .step .ensures) in
+    let s = rw (called .before .before .entry-at .ensures) at (called .try-play .ensures) in
+    going-next (a .file .now) (a .day) (a .rows) (a .places) (a .journal .now) (a .log .now) (a .opens .now) (a .reserves .now) (a .helds .now) _
+    (l .log) (l .opens) (l .reserves) (l .helds) (l .today) (l .list) (l .at) (l .i) (l .inv)
+    (turn .loop-test .taken) (asStep (called .try-play .result) (l .list)) (called .try-play .last .1 .1 .1 .1 .1 .1 .0) (l .opens) (l .reserves) (l .helds)
+    (s .took (c .before .if1 .taken) (l .opens) (l .reserves) (l .helds)) refl refl refl
+
+step-requires : tie.Need-step-requires Inv-loop μ-loop
+step-requires c κs =
+    let tried = c .before .before .before .before .before .before .before in
+    let turn = tried .before .before .before in
+    let l = turn .before .loop in
+    let start = turn .before .before .before .before .before .before .before .before in
+    let a = start .args in
+    let same = tried .try-play .ensures .kept (c .before .before .before .before .if1 .left) in (
+      omega (arith, ap length same, l .inv .placed),
+      start .pre .0,
+      pictured-between (settingAt (a .file .now) (l .today)) (stateOf (l .today) (l .list) (a .places) (l .opens) (l .reserves) (l .helds)) (l .inv .pictured),
+    )
+
+same-length : tie.Need-same-length Inv-loop μ-loop
+same-length c =
+    let called = c .before .before .before .before .before .before .before .before .before .before in
+    let tried = called .before .before .before .before .before .before .before .before in
+    let l = tried .before .before .before .before .loop in
+    called .step .kept .1 .1 .1 .1 .1 .1 .0 ∙ tried .try-play .kept .1 .1 .1 .1 .1 .1 .0 ∙ l .inv .long
+
+same-length-2 : tie.Need-same-length-2 Inv-loop μ-loop
+same-length-2 c =
+    let called = c .before .before .before .before .before .before .before .before .before .before in
+    let tried = called .before .before .before .before .before .before .before .before in
+    let l = tried .before .before .before .before .loop in
+    called .step .kept .1 .1 .1 .1 .1 .1 .1 .1 .0 ∙ l .inv .opensLong
+
+same-length-3 : tie.Need-same-length-3 Inv-loop μ-loop
+same-length-3 c =
+    let called = c .before .before .before .before .before .before .before .before .before .before in
+    let tried = called .before .before .before .before .before .before .before .before in
+    let l = tried .before .before .before .before .loop in
+    called .step .kept .1 .1 .1 .1 .1 .1 .1 .1 .1 .0 ∙ l .inv .reservesLong
+
+same-length-4 : tie.Need-same-length-4 Inv-loop μ-loop
+same-length-4 c =
+    let called = c .before .before .before .before .before .before .before .before .before .before in
+    let tried = called .before .before .before .before .before .before .before .before in
+    let l = tried .before .before .before .before .loop in
+    called .step .kept .1 .1 .1 .1 .1 .1 .1 .1 .1 .1 .0 ∙ l .inv .heldsLong
+
+returns : tie.Need-returns Inv-loop μ-loop
+returns c =
+    let called = c .before .before .before .before .before .before .before .before .before .before in
+    let tried = called .before .before .before .before .before .before .before .before in
+    let turn = tried .before .before .before in
+    let l = turn .before .loop in
+    let start = turn .before .before .before .before .before .before .before .before in
+    let a = start .args in
+    let same = tried .try-play .ensures .kept (called .before .before .before .before .before .if1 .left) in
+    let s = rw same at (rw (tried .before .before .entry-at .ensures) at (called .step .ensures)) in
+    let last = called .step .last .1 .1 .1 .1 .1 .1 in
+    going-full (a .file .now) (a .day) (a .rows) (a .places) (a .journal .now) (a .log .now) (a .opens .now) (a .reserves .now) (a .helds .now) _
+    (l .log) (l .opens) (l .reserves) (l .helds) (l .today) (l .list) (l .at) (l .i) (l .inv)
+    (turn .loop-test .taken) (called .step .result) (last .0) (last .1 .1 .0) (last .1 .1 .1 .0) (last .1 .1 .1 .1 .0) (s .kept (not-true _ (c .if2 .taken)))
+
+add-i-2 : tie.Need-add-i-2 Inv-loop μ-loop
+add-i-2 c =
+    let turn = c .before .before .before .before .before .before .before .before .before .before .before .before .before .before .before .before .before .before .before .before .before .before .before in
+    let start = turn .before .before .before .before .before .before .before .before in
+    record { fits = omega (arith, turn .loop-test .taken, start .good) }
+
+loop-less-2 : tie.Need-loop-less-2 Inv-loop μ-loop
+loop-less-2 c = let turn = c .before .before .before .before .before .before .before .before .before .before .before .before .before .before .before .before .before .before .before .before .before .before .before in omega (arith, turn .loop-test .taken)
+
+loop-again-2 : tie.Need-loop-again-2 Inv-loop μ-loop
+loop-again-2 c =
+    let called = c .before .before .before .before .before .before .before .before .before .before .before .before in
+    let tried = called .before .before .before .before .before .before .before .before in
+    let turn = tried .before .before .before in
+    let l = turn .before .loop in
+    let start = turn .before .before .before .before .before .before .before .before in
+    let a = start .args in
+    let same = tried .try-play .ensures .kept (called .before .before .before .before .before .if1 .left) in
+    let s = rw same at (rw (tried .before .before .entry-at .ensures) at (called .step .ensures)) in
     let last = called .step .last .1 .1 .1 .1 .1 .1 in
     let kept = called .step .kept .1 .1 .1 .1 .1 .1 .1 .1 in
     going-next (a .file .now) (a .day) (a .rows) (a .places) (a .journal .now) (a .log .now) (a .opens .now) (a .reserves .now) (a .helds .now) _
     (l .log) (l .opens) (l .reserves) (l .helds) (l .today) (l .list) (l .at) (l .i) (l .inv)
-    (turn .loop-test .taken) (called .step .result) (last .0) (last .1 .1 .0) (last .1 .1 .1 .0) (last .1 .1 .1 .1 .0) (s .took (not-false _ (c .before .before .if1 .left)))
+    (turn .loop-test .taken) (called .step .result) (last .0) (last .1 .1 .0) (last .1 .1 .1 .0) (last .1 .1 .1 .1 .0) (s .took (not-false _ (c .before .before .if2 .left)))
     (kept .0) (kept .1 .0) (kept .1 .1 .0)
 
 same-length-5 : tie.Need-same-length-5 Inv-loop μ-loop
@@ -115,15 +174,19 @@ run-spec =
     μ-loop
     loop-holds
     entry-at-requires
+    try-play-requires
+    add-i
+    loop-less
+    loop-again
     step-requires
     same-length
     same-length-2
     same-length-3
     same-length-4
     returns
-    add-i
-    loop-less
-    loop-again
+    add-i-2
+    loop-less-2
+    loop-again-2
     same-length-5
     same-length-6
     same-length-7

@@ -123,7 +123,7 @@ same-length-10 c = search needs
 
 returns-5 : tie.Need-returns-5
 returns-5 c =
-    let called = c .before .before in
+    let called = c .before .before .before in
     let a = called .before .before .before .before .before .before .before .before .before .before .before .before .args in
     rw (called .before .before .before .entry3 .given .1) (called .step-play .ensures (a .opens .now) (a .reserves .now) (a .helds .now))
 
