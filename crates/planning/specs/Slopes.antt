@@ -7,14 +7,13 @@ use mathlib.Core.List.{List, [], _∷_}
 use Prim.Native.Nat.{ℕ, zero, suc, _+_, _-_, _*_, _/_, _≤_, _<_, max}
 use native.Mathlib.Nat.{not-suc-le-zero, le-of-suc-le-suc, add-mul, mul-add, mul-comm, mul-le-mul-right, div-lt-iff-lt-mul}
 use native.Mathlib.Omega.{arith}
-use borrow.Author.Tests.{ltb-true, ltb-false, eqb-true, eq-eqb}
+use borrow.Author.Tests.{ltb-true, ltb-false}
 use lib.Dec.{ltb, eqb}
 use lib.ListN.{length, getD, drop}
 use Rattle.laws.specs.Sums.{largest}
 use Rattle.retrieval.specs.Schedule.{sends}
 use Rattle.retrieval.specs.LeastReserve.{Serves, servesBy}
-use Rattle.retrieval.specs.ReserveLaws.{film-serves, servesBy-iff}
-use Rattle.retrieval.specs.Tests.{same-test}
+use Rattle.retrieval.specs.ReserveLaws.{film-serves, servesBy-test}
 use Rattle.retrieval.specs.Stored.{maxHeld}
 use Rattle.retrieval.specs.Carry.{carry, profile}
 use Rattle.limits.specs.Bounds.{maxRounds}
@@ -129,15 +128,6 @@ needed-serves xs p cap b h =
     let start = raised-none b (carry b xs - p * b) (p + run b xs) (omega arith) in
     film-serves xs p cap b .1 (omega arith)
 
--- whether a reserve serves, as the code tests it
-pub serves-test : (xs : List ℕ) (p cap b : ℕ) → eqb (max (largest (profile b xs) - cap) (carry b xs - p * b)) 0 ≡ servesBy (sends p xs) cap b
-serves-test xs p cap b =
-    let i = servesBy-iff (sends p xs) cap b in
-    let f = film-serves xs p cap b in
-    let over = max (largest (profile b xs) - cap) (carry b xs - p * b) in
-    same-test (eqb over 0) (servesBy (sends p xs) cap b) (λ e. i .1 (f .1 (omega (arith, eqb-true over 0 e))))
-    (λ e. eq-eqb over 0 (omega (arith, f .0 (i .0 e))))
-
 -- ---- one pass at two reserves
 
 pub record Tries (xs : List ℕ) (b mid : ℕ) (r : Tried) : Type 0 where
@@ -163,4 +153,4 @@ module _ (xs : List ℕ) (p cap b mid : ℕ) (t : Tried) (tries : Tries xs b mid
   pub tried-serves : (over : ℕ) → over ≡ max (t .peak - cap) (t .left - p * mid) → eqb over 0 ≡ servesBy (sends p xs) cap mid
   tried-serves over e =
       let e′ : over ≡ max (largest (profile mid xs) - cap) (carry mid xs - p * mid) = rw (tries .second-peak, tries .second-carry) at e in
-      rw e′ (serves-test xs p cap mid)
+      rw e′ (servesBy-test p cap mid xs)
