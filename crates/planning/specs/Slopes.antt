@@ -5,12 +5,12 @@ use mathlib.Core.Path.{_≡_, refl, sym, ap, _∙_}
 use mathlib.Core.Bool.{Bool, true, false, cond}
 use mathlib.Core.List.{List, [], _∷_}
 use Prim.Native.Nat.{ℕ, zero, suc, _+_, _-_, _*_, _/_, _≤_, _<_, max}
-use native.Mathlib.Nat.{not-suc-le-zero, le-of-suc-le-suc, add-mul, mul-add, mul-comm, mul-le-mul-right, div-lt-iff-lt-mul}
+use native.Mathlib.Nat.{not-suc-le-zero, le-of-suc-le-suc, suc-mul, add-mul, mul-add, mul-comm, mul-le-mul-right, div-lt-iff-lt-mul}
 use native.Mathlib.Omega.{arith}
 use borrow.Author.Tests.{ltb-true, ltb-false}
 use lib.Dec.{ltb, eqb}
 use lib.ListN.{length, getD, drop}
-use Rattle.laws.specs.Sums.{largest}
+use Rattle.laws.specs.Sums.{sum, largest}
 use Rattle.retrieval.specs.Schedule.{sends}
 use Rattle.retrieval.specs.LeastReserve.{Serves, servesBy}
 use Rattle.retrieval.specs.ReserveLaws.{film-serves, servesBy-test}
@@ -107,6 +107,18 @@ raised-none b over rounds h = pick (ltb 0 over) refl h
     pick : (t : Bool) → ltb 0 over ≡ t → cond t ((b + (over - 1) / max rounds 1) + 1) b ≤ b → over ≡ 0
     pick true e k = absurd (omega arith)
     pick false e k = omega (arith, ltb-false 0 over e)
+
+-- the total over all the rounds
+sum-carry : (b : ℕ) (xs : List ℕ) → sum xs ≤ carry b xs + length xs * b
+sum-carry b [] = omega arith
+sum-carry b (x ∷ xs) = omega (arith, sum-carry b xs, suc-mul (length xs) b)
+
+pub total-needed : (xs : List ℕ) (p n cap b : ℕ) → length xs ≡ n → Serves (sends p xs) cap b → raised 0 (sum xs) (p + n) ≤ b
+total-needed xs p n cap b l v =
+    let u = film-serves xs p cap b .0 v in
+    let z : b - 0 ≡ b = omega arith in
+    let all : sum xs ≤ (p + n) * b = rw (sym l) (omega (arith, sum-carry b xs, add-mul p (length xs) b)) in
+    raised-least 0 b (sum xs) (p + n) (omega arith) (rw z all)
 
 -- what a pass at b says that a film with p pre-fetch rounds needs at least: b itself where it serves, else more
 abbrev pub needed : List ℕ → ℕ → ℕ → ℕ → ℕ

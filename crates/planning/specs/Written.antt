@@ -12,6 +12,7 @@ use Rattle.retrieval.specs.Schedule.{sends, totals}
 use Rattle.retrieval.specs.JustInTime.{due, justInTime}
 use Rattle.retrieval.specs.Carry.{carry}
 use Rattle.retrieval.specs.CarryLaws.{due-carry, justInTime-at, prefetch}
+use Rattle.retrieval.specs.Pace.{sum-drop}
 use Rattle.retrieval.specs.Round.{totals-at}
 use Rattle.retrieval.specs.Sheet.{waiting}
 use Rattle.retrieval.specs.Stored.{sendsAt, InRange, maxHeld, length-sizes, largest-small, sends-shown}
@@ -41,6 +42,15 @@ sum-bound m (x ∷ xs) h = omega (arith, sum-bound m xs (omega arith), mul-suc m
 pub total-small : (s : List ℕ) (at n : ℕ) → Stored s at n → sum (sizes s at n) ≤ maxHeld
 total-small s at n w =
     omega (arith, w .few, sum-bound maxSize (sizes s at n) (largest-small s at n w), length-sizes s at n)
+
+-- a turn of a loop from k to k - 1 that adds
+pub turn-sum : (k x a : ℕ) (xs : List ℕ) → 0 < k → k ≤ length xs → a ≡ sum (drop k xs) → x ≡ getD xs (k - 1) 0
+    → a + x ≡ sum (drop (k - 1) xs)
+turn-sum zero x a xs h l ea ex = absurd (not-suc-le-zero h)
+turn-sum (suc k) x a xs h l ea ex =
+    let e : suc k - 1 ≡ k = omega arith in
+    let ex′ : x ≡ getD xs k 0 = rw e at ex in
+    rw e (omega (arith, sum-drop xs k l))
 
 -- ---- C by its place: C(k-1) stands at k behind C(-1)
 

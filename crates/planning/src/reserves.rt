@@ -10,7 +10,7 @@ ghost use Rattle.laws.specs.Questions.{refusal};
 ghost use Rattle.laws.specs.Sums as sums;
 ghost use Rattle.retrieval.specs.Schedule.{sends};
 ghost use Rattle.retrieval.specs.LeastReserve.{Serves, Least, servesBy, leastReserve};
-ghost use Rattle.retrieval.specs.Stored.{sendsAt, InRange};
+ghost use Rattle.retrieval.specs.Stored.{sendsAt, InRange, maxHeld};
 ghost use Rattle.planning.specs.Answers.{reserveBy, capQuestions, reserved};
 ghost use Rattle.planning.specs.Slopes.{raised, needed, Tries};
 use films::catalogue::catalogue;
@@ -31,18 +31,27 @@ pub enum Reserve {
     Bytes(u64),
 }
 
-// The largest of the film's n sizes.
-fn largest(file: &[u8], at: usize, n: usize) -> u64
+// The largest of a film's sizes, and their sum.
+struct Extent {
+    largest: u64,
+    total: u64,
+}
+
+// Those of the film's n sizes.
+fn extent_of(file: &[u8], at: usize, n: usize) -> Extent
     requires { ⌜ Stored (now file) at n ⌝ }
-    ensures { λ r. ⌜ r ≡ sums.largest (sizes (now (file .entry)) at n) ⌝ }
+    ensures { λ r. ⌜ (r .largest ≡ sums.largest (sizes (now (file .entry)) at n)) × (r .total ≡ sums.sum (sizes (now (file .entry)) at n)) × (r .total ≤ maxHeld) ⌝ }
 {
-    let mut most: u64 = 0;
+    let mut largest: u64 = 0;
+    let mut total: u64 = 0;
     let mut i = n;
     while 0 < i {
         i -= 1;
-        most = larger(most, size_at(file, at + 4 * i));
+        let x = size_at(file, at + 4 * i);
+        largest = larger(largest, x);
+        total += x;
     }
-    most
+    Extent { largest, total }
 }
 
 // What one pass over a film's sizes finds of two reserves.
@@ -141,12 +150,13 @@ fn trial(file: &[u8], at: usize, n: usize, p: usize, cap: u64, b: u64, mid: u64)
     }
 }
 
-// The least reserve, where `high` has such a schedule: by bisection, whose lower end moves on to what is found to be needed.
-fn search(file: &[u8], at: usize, n: usize, p: usize, cap: u64, high: u64) -> u64
-    requires { ⌜ (InRange (now file) at n p high) × (Serves (sendsAt (now file) at n p) cap high) ⌝ }
+// The least reserve, where `high` has such a schedule and none below `low` has: by bisection, whose lower end moves on to what is
+// found to be needed.
+fn search(file: &[u8], at: usize, n: usize, p: usize, cap: u64, low: u64, high: u64) -> u64
+    requires { ⌜ (InRange (now file) at n p high) × (Serves (sendsAt (now file) at n p) cap high) × ((b : ℕ) → Serves (sendsAt (now file) at n p) cap b → low ≤ b) ⌝ }
     ensures { λ r. ⌜ Least (sendsAt (now (file .entry)) at n p) cap r ⌝ }
 {
-    let mut lo: u64 = 0;
+    let mut lo = low;
     let mut hi = high;
     while lo < hi {
         let mid = lo + (hi - lo) / 2;
@@ -165,7 +175,7 @@ fn search(file: &[u8], at: usize, n: usize, p: usize, cap: u64, high: u64) -> u6
 }
 
 // The answer for a film whose n sizes stand at an offset of the file. A reserve of the largest size
-// serves wherever the cap is as much.
+// serves wherever the cap is as much, and none below the total over all the film's rounds does.
 fn least(file: &[u8], at: usize, n: usize, p: u64, cap: u64) -> Reserve
     requires { ⌜ Stored (now file) at n ⌝ }
     ensures { λ r. ⌜ r ≡ reserveBy (refusal (capQuestions (sizes (now (file .entry)) at n) p cap)) (leastReserve (sends p (sizes (now (file .entry)) at n)) cap) ⌝ }
@@ -173,11 +183,13 @@ fn least(file: &[u8], at: usize, n: usize, p: u64, cap: u64) -> Reserve
     if MAX_PREFETCH < p {
         return Reserve::Refused(PREFETCH);
     }
-    let high = largest(file, at, n);
+    let extent = extent_of(file, at, n);
+    let high = extent.largest;
     if cap < high {
         return Reserve::Refused(CAP);
     }
-    Reserve::Bytes(search(file, at, n, p as usize, cap, high))
+    let low = raise(0, extent.total, p + n as u64);
+    Reserve::Bytes(search(file, at, n, p as usize, cap, low, high))
 }
 
 // The least reserve of a film of the file, in bytes per round, with p pre-fetch rounds and a memory cap in bytes; or the number

@@ -69,7 +69,7 @@ paced-end b p xs i sent most e q =
     sym q ∙ le-leb (carry b (drop i xs)) (most - sent) (omega arith)
 
 -- the sizes from i on
-sum-drop : (xs : List ℕ) (t : ℕ) → t < length xs → sum (drop t xs) ≡ getD xs t 0 + sum (drop (suc t) xs)
+pub sum-drop : (xs : List ℕ) (t : ℕ) → t < length xs → sum (drop t xs) ≡ getD xs t 0 + sum (drop (suc t) xs)
 sum-drop [] t h = absurd (not-suc-le-zero h)
 sum-drop (x ∷ xs) zero h = refl
 sum-drop (x ∷ xs) (suc t) h = sum-drop xs t (le-of-suc-le-suc h)

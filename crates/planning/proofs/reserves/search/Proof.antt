@@ -13,17 +13,19 @@ use Rattle.planning.proofs.reserves.search.Statement.{statement}
 use Rattle.planning.proofs.reserves.search.Tie as tie
 
 abbrev Inv-loop : tie.InvT-loop
-Inv-loop file at n p cap high lo₀ hi₀ lo hi =
+Inv-loop file at n p cap low high lo₀ hi₀ lo hi =
     (lo ≤ hi)
     × (hi ≤ high)
     × Serves (sendsAt file at n p) cap hi
     × ((b : ℕ) → Serves (sendsAt file at n p) cap b → lo ≤ b)
 
 abbrev μ-loop : tie.MeasureT-loop
-μ-loop file at n p cap high lo₀ hi₀ lo hi = hi - lo
+μ-loop file at n p cap low high lo₀ hi₀ lo hi = hi - lo
 
 loop-holds : tie.Need-loop-holds Inv-loop μ-loop
-loop-holds c = (omega arith, omega arith, c .before .pre .1, λ b v. omega arith)
+loop-holds c =
+    let start = c .before in
+    (start .pre .2 (start .args .high) (start .pre .1), omega arith, start .pre .1, start .pre .2)
 
 sub-mid : tie.Need-sub-mid Inv-loop μ-loop
 sub-mid c = search needs
