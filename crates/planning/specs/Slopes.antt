@@ -1,6 +1,6 @@
--- What one pass at a reserve b tells of larger reserves. What is carried falls by at most b′ - b for each round in a row that
--- carries something, so a reserve that b falls short of the cap or of the start by has to be larger by that over the rounds.
--- Assumes nothing.
+-- What one pass at a reserve b tells of a larger one b′. The carry falls by at most b′ - b for each round in a row that is
+-- carried over, so where b leaves too much by some bytes, a reserve that serves is larger by at least those bytes shared out
+-- over these rounds. Assumes nothing.
 use mathlib.Core.Path.{_≡_, refl, sym, ap, _∙_}
 use mathlib.Core.Bool.{Bool, true, false, cond}
 use mathlib.Core.List.{List, [], _∷_}
@@ -19,12 +19,12 @@ use Rattle.retrieval.specs.Carry.{carry, profile}
 use Rattle.limits.specs.Bounds.{maxRounds}
 use Rattle.planning.specs.declared.reserves.Tried.{Tried}
 
--- the rounds in a row, from the first on, before which something is carried
+-- the rounds in a row, from the first on, before which something is left to be read
 abbrev pub run : ℕ → List ℕ → ℕ
 run b [] = 0
 run b (x ∷ xs) = cond (ltb 0 ((x + carry b xs) - b)) (run b xs + 1) 0
 
--- those after the last round that holds the peak
+-- those after the last round that holds as much as the peak
 abbrev pub after : ℕ → List ℕ → ℕ
 after b [] = 0
 after b (x ∷ xs) = cond (ltb (largest (profile b xs)) (x + carry b xs)) (run b xs) (after b xs)

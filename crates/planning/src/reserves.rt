@@ -54,33 +54,33 @@ fn extent_of(file: &[u8], at: usize, n: usize) -> Extent
     Extent { largest, total }
 }
 
-// What one pass over a film's sizes finds of two reserves.
+// What one pass over a film's sizes finds of two reserves. A round is carried over if something is left to be read before it.
 struct Tried {
-    // of the first: its peak, and the rounds after the peak's that carry something, in a row;
+    // the first's peak, and how many rounds in a row after the peak's are carried over
     most: u64,
     after: u64,
-    // what is left to be read before the film shows, and the rounds from the first on that carry something, in a row;
+    // the first's carry of all the sizes, and how many rounds in a row from the first on are carried over
     carry: u64,
     rounds: u64,
-    // of the second: its peak, and what is left to be read before the film shows.
+    // the second's peak, and its carry of all the sizes
     peak: u64,
     left: u64,
 }
 
-// What a pass says of the first reserve's film and of the second.
+// What the film needs at least by what a pass finds of the first reserve, and whether the second serves.
 struct Findings {
     needed: u64,
     serves: bool,
 }
 
-// r where h is more than the peak so far, else what stood.
+// The rounds after the peak's: r where this round holds more than those after it, else as it stood.
 fn later(most: u64, h: u64, after: u64, r: u64) -> u64
     ensures { λ q. ⌜ q ≡ cond (ltb most h) r after ⌝ }
 {
     if most < h { r } else { after }
 }
 
-// One more round in a row, if something is carried.
+// One more round in a row, if something is left to be read before it.
 fn run_on(carry: u64, rounds: u64) -> u64
     requires { ⌜ rounds < 2 ^ 63 ⌝ }
     ensures { λ q. ⌜ (q ≡ cond (ltb 0 carry) (rounds + 1) 0) × (q ≤ rounds + 1) ⌝ }
@@ -133,8 +133,8 @@ fn raise(b: u64, over: u64, rounds: u64) -> u64
     }
 }
 
-// By one pass, what the film needs at least, which is b itself where b serves, and whether mid serves: whether it has a schedule
-// with peak at most the cap.
+// By one pass, a reserve that the film needs at least, b itself exactly if b serves, and whether mid serves. A reserve serves if
+// it has a schedule with peak at most the cap.
 fn trial(file: &[u8], at: usize, n: usize, p: usize, cap: u64, b: u64, mid: u64) -> Findings
     requires { ⌜ (InRange (now file) at n p b) × (InRange (now file) at n p mid) ⌝ }
     ensures { λ r. ⌜ (r .needed ≡ needed (sizes (now (file .entry)) at n) p cap b) × (r .serves ≡ servesBy (sendsAt (now (file .entry)) at n p) cap mid) ⌝ }
@@ -150,7 +150,7 @@ fn trial(file: &[u8], at: usize, n: usize, p: usize, cap: u64, b: u64, mid: u64)
     }
 }
 
-// The least reserve, where `high` has such a schedule and none below `low` has: by bisection, whose lower end moves on to what is
+// The least reserve that serves, where `high` does and none below `low` does: by bisection, whose lower end moves on to what is
 // found to be needed.
 fn search(file: &[u8], at: usize, n: usize, p: usize, cap: u64, low: u64, high: u64) -> u64
     requires { ⌜ (InRange (now file) at n p high) × (Serves (sendsAt (now file) at n p) cap high) × ((b : ℕ) → Serves (sendsAt (now file) at n p) cap b → low ≤ b) ⌝ }
@@ -174,8 +174,8 @@ fn search(file: &[u8], at: usize, n: usize, p: usize, cap: u64, low: u64, high: 
     lo
 }
 
-// The answer for a film whose n sizes stand at an offset of the file. A reserve of the largest size
-// serves wherever the cap is as much, and none below the total over all the film's rounds does.
+// The answer for a film whose n sizes stand at an offset of the file. A reserve of the largest size serves wherever the cap is
+// as much, and none below the total shared out over all the film's rounds does.
 fn least(file: &[u8], at: usize, n: usize, p: u64, cap: u64) -> Reserve
     requires { ⌜ Stored (now file) at n ⌝ }
     ensures { λ r. ⌜ r ≡ reserveBy (refusal (capQuestions (sizes (now (file .entry)) at n) p cap)) (leastReserve (sends p (sizes (now (file .entry)) at n)) cap) ⌝ }

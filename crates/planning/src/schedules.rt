@@ -34,8 +34,8 @@ pub enum Scheduled {
     Written(u64),
 }
 
-// Writes the just-in-time totals of the rounds that show to their places, the last one first: of a round, what the film has sent by
-// its end and the carry of the rounds after it. Gives the carry of them all.
+// Writes the just-in-time totals of the rounds that show to their places, the last one first: of each round, what the film has
+// sent by its end and the carry of the rounds after it. Gives the carry of them all.
 fn write_shown(
     out: &mut [u64],
     file: &[u8],

@@ -106,7 +106,7 @@ fn carry_from(file: &[u8], at: usize, n: usize, p: usize, b: u64, t: usize) -> u
     less(carry_shown(file, at, n, b, 0), ((p - t) as u64) * b)
 }
 
-// The film's total in bytes, if a schedule exists: if b for each round up to a size's is at least the sum of the sizes up to it.
+// The film's total in bytes, if a schedule exists: if b for each round up to a size's is at least the sum of the sizes to it.
 pub fn film_total(file: &[u8], at: usize, n: usize, p: usize, b: u64) -> Total
     requires { ⌜ InRange (now file) at n p b ⌝ }
     ensures { λ r. ⌜ r ≡ totalIf (existsBy b (sendsAt (now (file .entry)) at n p)) (sum (sizes (now (file .entry)) at n)) ⌝ }
