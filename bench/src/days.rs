@@ -190,25 +190,30 @@ fn profile_of(file: &[u8], request: &Request) -> Vec<u64> {
 pub enum Spikes {
     Early,
     Late,
+    Middle,
 }
 
-/// A window of the whole day of 86,400 rounds in which memory refuses every start. The day holds much in every other round, and the
-/// film has two rounds with many bytes, an odd number of rounds apart, so that one of them refuses the even starts and the other the
-/// odd ones, and neither a start's own neighbour's round nor the round before it does.
+/// A window of the whole day of 86,400 rounds in which memory refuses every start. The day holds much in one of two or three rounds,
+/// and the film has as many rounds with many bytes, each of which refuses one start of as many: neither the round that refused the
+/// start before nor the round before that one refuses the next.
 pub fn refused_by_memory(spikes: Spikes) -> Fixture {
     let rounds = 86_400;
     let film_rounds = 4_096;
     let (much, spike) = (1_000_000, 500_000);
-    let standing = (0..film_rounds).map(|round| if round % 2 == 0 { much } else { 0 });
     let places = match spikes {
-        Spikes::Early => [5, 10],
-        Spikes::Late => [film_rounds - 6, film_rounds - 1],
+        Spikes::Early => vec![5, 10],
+        Spikes::Late => vec![film_rounds - 6, film_rounds - 1],
+        Spikes::Middle => vec![2_048, 2_052, 2_056],
     };
+    let every = places.len();
     let wanted = (0..film_rounds).map(|round| if places.contains(&round) { spike } else { 1 });
-    // The day's last rounds are covered by a shorter film.
-    let count = rounds / film_rounds as u64;
-    let rest = rounds - count * film_rounds as u64;
-    let last = (0..rest as usize).map(|round| if round % 2 == 0 { much } else { 0 });
+    // Whole turns, so that the day goes on in the same way from film to film; its last rounds are covered by a shorter one.
+    let standing_rounds = film_rounds - film_rounds % every;
+    let count = rounds / standing_rounds as u64;
+    let rest = rounds - count * standing_rounds as u64;
+    let bytes = |round| if round % every == 0 { much } else { 0 };
+    let standing = (0..standing_rounds).map(bytes);
+    let last = (0..rest as usize).map(bytes);
     let file = encode(&[
         Film {
             number: 1,
@@ -228,7 +233,7 @@ pub fn refused_by_memory(spikes: Spikes) -> Fixture {
         *record = Booking {
             name: 1 + place as u32,
             film: if place as u64 == count { 3 } else { 1 },
-            start: place as u32 * film_rounds as u32,
+            start: place as u32 * standing_rounds as u32,
             prefetch: 0,
             reserve: much,
             cabs: 1,

@@ -4,7 +4,8 @@ use super::contest::{Call, State};
 use crate::days::{
     day, films, refused_all_day, refused_by_memory, Fixture, Refuser, Size, Spikes, PREFETCH,
 };
-use crate::scheduler::Sheet;
+use crate::fast::Fast;
+use crate::scheduler::{Scheduler, Sheet};
 use playback::journal;
 use playback::limits::{MAX_BOOKINGS, MAX_MEMORY};
 use playback::{Booking, Day, Request};
@@ -39,13 +40,19 @@ fn of_file(file: Vec<u8>) -> State {
     })
 }
 
+/// A schedule of the first film, with the least reserve that has one.
+pub fn schedule_call(file: &[u8]) -> Call {
+    let film = 1;
+    let reserve = Fast.least_reserve(file, film, PREFETCH, MAX_MEMORY).bytes;
+    Call::Schedule { film, reserve }
+}
+
 /// Verdict, schedule and least reserve.
 pub fn file_cases() -> Vec<Case> {
     let all = films(64, 4_096);
     let largest = of_file(encode(&all));
     let single = of_file(encode(&all[..1]));
     let film = 1;
-    let reserve = 300_000;
     let narrow = Call::LeastReserve {
         film,
         cap: 2_000_000,
@@ -63,12 +70,12 @@ pub fn file_cases() -> Vec<Case> {
         case("verdict, one film (16 KiB)", Call::Verdict, single.clone()),
         case(
             "schedule, 4,096 rounds, largest file",
-            Call::Schedule { film, reserve },
+            schedule_call(&largest.fixture.file),
             largest.clone(),
         ),
         case(
             "schedule, 4,096 rounds, one film",
-            Call::Schedule { film, reserve },
+            schedule_call(&single.fixture.file),
             single.clone(),
         ),
         case(
@@ -97,6 +104,10 @@ pub fn search_cases() -> Vec<Case> {
         memory(
             "memory refuses alternately, early in the film",
             Spikes::Early,
+        ),
+        memory(
+            "memory refuses in three rounds in turn, in the middle",
+            Spikes::Middle,
         ),
     ]
 }

@@ -1,6 +1,6 @@
 //! Instructions by `valgrind --tool=callgrind`, which are the same on a busy machine.
 
-use super::cases::{file_cases, Case};
+use super::cases::{file_cases, schedule_call, Case};
 use super::contest::{once, Call, State};
 use crate::days::{day, Size};
 use crate::document::{grouped, table};
@@ -103,10 +103,13 @@ fn file_case(name: &str) -> Option<(Call, State)> {
         _ => return None,
     };
     let Case {
-        call, mut state, ..
+        mut call,
+        mut state,
+        ..
     } = cases.into_iter().nth(place)?;
     if name == "schedule-small" {
         state.fixture.file = reference::film_file::encode(&crate::days::films(1, 512));
+        call = schedule_call(&state.fixture.file);
     }
     Some((call, state))
 }
