@@ -1,9 +1,9 @@
 //! Requests for the film, one after the other, and how many are admitted.
 
-use super::desk::{Desk, Limits};
 use super::film::file_of;
 use super::policy::{Disk, Memory, Policy};
 use playback::limits::{MAX_DISK, MAX_MEMORY};
+use playback::{Desk, FilmFile, Limits, Refusal, Request};
 
 /// Bytes of the disk in a round of half a second: four disks of 60 Mbit/s (000's disk system 1).
 pub const DISK: u64 = 15_000_000;
@@ -57,6 +57,20 @@ pub struct Outcome {
     pub held: u64,
 }
 
+fn opened(file: &[u8], limits: Limits) -> Desk<'_> {
+    let films = FilmFile::new(file).expect("the film file is accepted");
+    Desk::open(films, limits).expect("the day is opened")
+}
+
+/// The start, or none where no start of the window fits.
+fn start_of(desk: &mut Desk, request: Request) -> Option<u64> {
+    match desk.book(request) {
+        Ok(booked) => Some(booked.start),
+        Err(Refusal::NoStart) => None,
+        Err(refusal) => panic!("{refusal}"),
+    }
+}
+
 /// Runs the requests under the policy. Where a charge goes beside the desk's own rule, a request is admitted at the first start that
 /// both the desk and the desk of charges take.
 pub fn run(trial: Trial, sizes: &[u32], policy: &Policy, memory: u64) -> Outcome {
@@ -71,7 +85,8 @@ pub fn run(trial: Trial, sizes: &[u32], policy: &Policy, memory: u64) -> Outcome
             Memory::Peak => MAX_MEMORY,
         },
     };
-    let mut desk = Desk::open(file_of(sizes.to_vec()), own);
+    let file = file_of(sizes.to_vec());
+    let mut desk = opened(&file, own);
     let charge = policy.charge();
     let mut charges = charge.as_ref().map(|charge| {
         let limit = match policy.disk {
@@ -83,7 +98,7 @@ pub fn run(trial: Trial, sizes: &[u32], policy: &Policy, memory: u64) -> Outcome
             disk: MAX_DISK,
             memory: limit,
         };
-        Desk::open(charge.file.clone(), limits)
+        opened(&charge.file, limits)
     });
     let mut outcome = Outcome::default();
     let mut waited = 0;
@@ -93,21 +108,22 @@ pub fn run(trial: Trial, sizes: &[u32], policy: &Policy, memory: u64) -> Outcome
         let cabs = 1 << (name % CABS);
         let mut first = arrival;
         let start = loop {
-            let Some(start) = desk.book(policy.request(name, cabs, first, last)) else {
+            let request = policy.request(name, cabs, first, last);
+            let Some(start) = start_of(&mut desk, request) else {
                 break None;
             };
             let (Some(charge), Some(charges)) = (&charge, &mut charges) else {
                 break Some(start);
             };
-            match charges.book(charge.request(name, cabs, start, last)) {
+            match start_of(charges, charge.request(name, cabs, start, last)) {
                 Some(same) if same == start => break Some(start),
                 Some(later) => {
-                    charges.drop_booking(name);
-                    desk.drop_booking(name);
+                    charges.drop_booking(name).expect("it stands");
+                    desk.drop_booking(name).expect("it stands");
                     first = later;
                 }
                 None => {
-                    desk.drop_booking(name);
+                    desk.drop_booking(name).expect("it stands");
                     break None;
                 }
             }
@@ -122,8 +138,8 @@ pub fn run(trial: Trial, sizes: &[u32], policy: &Policy, memory: u64) -> Outcome
             None => {}
         }
     }
-    outcome.open = desk.sheet.opens.iter().copied().max().unwrap_or(0);
-    outcome.held = desk.sheet.helds.iter().copied().max().unwrap_or(0);
+    outcome.open = desk.sheet().opens.iter().copied().max().unwrap_or(0);
+    outcome.held = desk.sheet().helds.iter().copied().max().unwrap_or(0);
     outcome.wait = waited as f64 / f64::from(outcome.admitted.max(1));
     outcome
 }
