@@ -1,5 +1,5 @@
 # make test: the gate, as .ci/run runs it. make demo: the session of document 01. make run FILMS=films.bin < commands: one's own.
-.PHONY: test demo run fmt lib examples differential
+.PHONY: test demo run fmt lib archive examples differential
 
 FILMS ?= films.bin
 HALL := target/bin/hall
@@ -42,6 +42,8 @@ lib: | target
 
 $(CURDIR)/target/staticlib/liblent.a: $(foreach crate,$(LENT),$(wildcard crates/$(crate)/src/*.rt)) | target
 	@rt staticlib lent > target/lib.log 2>&1 || { cat target/lib.log; exit 1; }
+
+archive: $(ARCHIVE)
 
 # make examples: the C example and the Rust one print the same day; the Rust crate's tests and the examples of its documentation.
 examples: $(ARCHIVE)
