@@ -1,88 +1,35 @@
--- What one pass at a reserve b tells of a larger one b′. The carry falls by at most b′ - b for each round in a row that is
--- carried over, so where b leaves too much by some bytes, a reserve that serves is larger by at least those bytes shared out
--- over these rounds. Assumes nothing.
+-- What one pass shows of the reserves that serve. It goes backward from a reserve, and keeps one that is needed with the least
+-- that this one leaves to be read: from one reserve to a larger one the carry falls by at most their difference for each round in
+-- a row that is carried over. So where a round holds too much by some bytes, a reserve that serves is larger by at least those
+-- bytes shared out over these rounds. Assumes nothing.
 use mathlib.Core.Path.{_≡_, refl, sym, ap, _∙_}
 use mathlib.Core.Bool.{Bool, true, false, cond}
 use mathlib.Core.List.{List, [], _∷_}
-use Prim.Native.Nat.{ℕ, zero, suc, _+_, _-_, _*_, _/_, _≤_, _<_, max}
-use native.Mathlib.Nat.{not-suc-le-zero, le-of-suc-le-suc, suc-mul, add-mul, mul-add, mul-comm, mul-le-mul-right, div-lt-iff-lt-mul}
+use Prim.Native.Nat.{ℕ, _+_, _-_, _*_, _/_, _≤_, _<_, max}
+use native.Mathlib.Nat.{suc-mul, add-mul, mul-add, mul-comm, mul-le-mul-right, div-lt-iff-lt-mul, div-le-self}
 use native.Mathlib.Omega.{arith}
 use borrow.Author.Tests.{ltb-true, ltb-false}
-use lib.Dec.{ltb, eqb}
+use lib.Dec.{ltb}
 use lib.ListN.{length, getD, drop}
 use Rattle.laws.specs.Sums.{sum, largest}
 use Rattle.retrieval.specs.Schedule.{sends}
-use Rattle.retrieval.specs.LeastReserve.{Serves, servesBy}
-use Rattle.retrieval.specs.ReserveLaws.{film-serves, servesBy-test}
-use Rattle.retrieval.specs.Stored.{maxHeld}
+use Rattle.retrieval.specs.LeastReserve.{Serves}
+use Rattle.retrieval.specs.ReserveLaws.{film-serves, serves-above}
+use Rattle.retrieval.specs.Stored.{turn-held, turn-carry, turn-peak}
 use Rattle.retrieval.specs.Carry.{carry, profile}
-use Rattle.limits.specs.Bounds.{maxRounds}
-use Rattle.planning.specs.declared.reserves.Tried.{Tried}
+use Rattle.retrieval.specs.CarryLaws.{getD-largest}
 
--- the rounds in a row, from the first on, before which something is left to be read
-abbrev pub run : ℕ → List ℕ → ℕ
-run b [] = 0
-run b (x ∷ xs) = cond (ltb 0 ((x + carry b xs) - b)) (run b xs + 1) 0
+-- what a pass at b answers: whatever serves and is at least b is at least r, and b serves if r is no more
+pub record Needs (xs : List ℕ) (p cap b r : ℕ) : Type 0 where
+  pub least : (b′ : ℕ) → b ≤ b′ → Serves (sends p xs) cap b′ → r ≤ b′
+  pub serves : r ≤ b → Serves (sends p xs) cap b
 
--- those after the last round that holds as much as the peak
-abbrev pub after : ℕ → List ℕ → ℕ
-after b [] = 0
-after b (x ∷ xs) = cond (ltb (largest (profile b xs)) (x + carry b xs)) (run b xs) (after b xs)
+-- where r is more, b does not serve, so that whatever serves is at least r
+pub needs-more : (xs : List ℕ) (p cap b r : ℕ) → Needs xs p cap b r → b < r → (b′ : ℕ) → Serves (sends p xs) cap b′ → r ≤ b′
+needs-more xs p cap b r needs h b′ v =
+    needs .least b′ (omega (arith, serves-above (sends p xs) cap b (λ w. omega (arith, needs .least b (omega arith) w)) b′ v)) v
 
--- ---- a turn of a loop that goes backward
-
-pub run-drop : (b : ℕ) (xs : List ℕ) (t : ℕ) → t < length xs
-    → run b (drop t xs) ≡ cond (ltb 0 ((getD xs t 0 + carry b (drop (suc t) xs)) - b)) (run b (drop (suc t) xs) + 1) 0
-run-drop b [] t h = absurd (not-suc-le-zero h)
-run-drop b (x ∷ xs) zero h = refl
-run-drop b (x ∷ xs) (suc t) h = run-drop b xs t (le-of-suc-le-suc h)
-
-pub after-drop : (b : ℕ) (xs : List ℕ) (t : ℕ) → t < length xs
-    → after b (drop t xs)
-    ≡ cond (ltb (largest (profile b (drop (suc t) xs))) (getD xs t 0 + carry b (drop (suc t) xs))) (run b (drop (suc t) xs)) (after b (drop (suc t) xs))
-after-drop b [] t h = absurd (not-suc-le-zero h)
-after-drop b (x ∷ xs) zero h = refl
-after-drop b (x ∷ xs) (suc t) h = after-drop b xs t (le-of-suc-le-suc h)
-
-pub turn-run : (b k c x : ℕ) (xs : List ℕ) → 0 < k → k ≤ length xs → c ≡ carry b (drop k xs) → x ≡ getD xs (k - 1) 0
-    → cond (ltb 0 ((x + c) - b)) (run b (drop k xs) + 1) 0 ≡ run b (drop (k - 1) xs)
-turn-run b zero c x xs h l ec ex = absurd (not-suc-le-zero h)
-turn-run b (suc k) c x xs h l ec ex =
-    let e : suc k - 1 ≡ k = omega arith in
-    let ex′ : x ≡ getD xs k 0 = rw e at ex in
-    rw (e, ec, ex′) (sym (run-drop b xs k l))
-
-pub turn-after : (b k c x : ℕ) (xs : List ℕ) → 0 < k → k ≤ length xs → c ≡ carry b (drop k xs) → x ≡ getD xs (k - 1) 0
-    → cond (ltb (largest (profile b (drop k xs))) (x + c)) (run b (drop k xs)) (after b (drop k xs)) ≡ after b (drop (k - 1) xs)
-turn-after b zero c x xs h l ec ex = absurd (not-suc-le-zero h)
-turn-after b (suc k) c x xs h l ec ex =
-    let e : suc k - 1 ≡ k = omega arith in
-    let ex′ : x ≡ getD xs k 0 = rw e at ex in
-    rw (e, ec, ex′) (sym (after-drop b xs k l))
-
--- ---- slopes
-
-module _ (b b′ : ℕ) (more : b ≤ b′) where
-  pub run-slope : (xs : List ℕ) → carry b xs ≤ carry b′ xs + run b xs * (b′ - b)
-  run-slope [] = omega arith
-  run-slope (x ∷ xs) = pick (ltb 0 ((x + carry b xs) - b)) refl (run-slope xs)
-    where
-      pick : (t : Bool) → ltb 0 ((x + carry b xs) - b) ≡ t → carry b xs ≤ carry b′ xs + run b xs * (b′ - b)
-          → (x + carry b xs) - b ≤ ((x + carry b′ xs) - b′) + cond t (run b xs + 1) 0 * (b′ - b)
-      pick true e h = omega (arith, ltb-true 0 ((x + carry b xs) - b) e, add-mul (run b xs) 1 (b′ - b))
-      pick false e h = omega (arith, ltb-false 0 ((x + carry b xs) - b) e)
-
-  pub after-slope : (xs : List ℕ) → largest (profile b xs) ≤ largest (profile b′ xs) + after b xs * (b′ - b)
-  after-slope [] = omega arith
-  after-slope (x ∷ xs) = pick (ltb (largest (profile b xs)) (x + carry b xs)) refl (run-slope xs) (after-slope xs)
-    where
-      pick : (t : Bool) → ltb (largest (profile b xs)) (x + carry b xs) ≡ t → carry b xs ≤ carry b′ xs + run b xs * (b′ - b)
-          → largest (profile b xs) ≤ largest (profile b′ xs) + after b xs * (b′ - b)
-          → max (x + carry b xs) (largest (profile b xs)) ≤ max (x + carry b′ xs) (largest (profile b′ xs)) + cond t (run b xs) (after b xs) * (b′ - b)
-      pick true e h k = omega (arith, ltb-true (largest (profile b xs)) (x + carry b xs) e)
-      pick false e h k = omega (arith, ltb-false (largest (profile b xs)) (x + carry b xs) e)
-
--- ---- the reserve that is needed at least
+-- ---- bytes shared out over rounds
 
 -- b and `over` shared out over some rounds, rounded up
 abbrev pub raised : ℕ → ℕ → ℕ → ℕ
@@ -108,7 +55,17 @@ raised-none b over rounds h = pick (ltb 0 over) refl h
     pick true e k = absurd (omega arith)
     pick false e k = omega (arith, ltb-false 0 over e)
 
--- the total over all the rounds
+-- a reserve is raised by no more than is shared out
+pub raised-within : (b over rounds : ℕ) → (b ≤ raised b over rounds) × (raised b over rounds ≤ b + over)
+raised-within b over rounds = pick (ltb 0 over) refl
+  where
+    pick : (t : Bool) → ltb 0 over ≡ t
+        → (b ≤ cond t ((b + (over - 1) / max rounds 1) + 1) b) × (cond t ((b + (over - 1) / max rounds 1) + 1) b ≤ b + over)
+    pick true e = let some = ltb-true 0 over e in let d = div-le-self (over - 1) (max rounds 1) in (omega arith, omega arith)
+    pick false e = (omega arith, omega arith)
+
+-- ---- the total over all the rounds
+
 sum-carry : (b : ℕ) (xs : List ℕ) → sum xs ≤ carry b xs + length xs * b
 sum-carry b [] = omega arith
 sum-carry b (x ∷ xs) = omega (arith, sum-carry b xs, suc-mul (length xs) b)
@@ -120,49 +77,91 @@ total-needed xs p n cap b l v =
     let all : sum xs ≤ (p + n) * b = rw (sym l) (omega (arith, sum-carry b xs, add-mul p (length xs) b)) in
     raised-least 0 b (sum xs) (p + n) (omega arith) (rw z all)
 
--- what a pass at b says that a film with p pre-fetch rounds needs at least: b itself where it serves, else more
-abbrev pub needed : List ℕ → ℕ → ℕ → ℕ → ℕ
-needed xs p cap b =
-    max (raised b (largest (profile b xs) - cap) (after b xs)) (raised b (carry b xs - p * b) (p + run b xs))
+-- ---- a pass
 
-pub needed-least : (xs : List ℕ) (p cap b b′ : ℕ) → b ≤ b′ → Serves (sends p xs) cap b′ → needed xs p cap b ≤ b′
-needed-least xs p cap b b′ h v =
-    let u = film-serves xs p cap b′ .0 v in
-    let d : b′ ≡ b + (b′ - b) = omega arith in
-    let q : p * b′ ≡ p * b + p * (b′ - b) = ap (λ (k : ℕ). p * k) d ∙ mul-add p b (b′ - b) in
-    let first = raised-least b b′ (largest (profile b xs) - cap) (after b xs) h (omega (arith, after-slope b b′ h xs)) in
-    let second = raised-least b b′ (carry b xs - p * b) (p + run b xs) h (omega (arith, run-slope b b′ h xs, add-mul p (run b xs) (b′ - b))) in
+-- A pass from b₀ that has gone back to round k has raised the reserve to b: whatever serves is at least b, and leaves at least c
+-- to be read before round k, less what it is above b for each of r rounds. Where nothing was raised, c is the carry and no round
+-- holds more than the cap.
+pub record LowerBounds (xs : List ℕ) (p cap b₀ k b c r : ℕ) : Type 0 where
+  pub from : b₀ ≤ b
+  pub low : (b′ : ℕ) → b₀ ≤ b′ → Serves (sends p xs) cap b′ → b ≤ b′
+  pub left : (b′ : ℕ) → b₀ ≤ b′ → Serves (sends p xs) cap b′ → c ≤ carry b′ (drop k xs) + r * (b′ - b)
+  pub carried : b ≤ b₀ → c ≡ carry b₀ (drop k xs)
+  pub peak : b ≤ b₀ → largest (profile b₀ (drop k xs)) ≤ cap
+
+pub bounds-start : (xs : List ℕ) (p cap b n : ℕ) → drop n xs ≡ [] → LowerBounds xs p cap b n b 0 0
+bounds-start xs p cap b n none =
+    record { from = omega arith; low = λ b′ h v. h; left = λ b′ h v. omega arith; carried = λ h. rw none; peak = λ h. rw none (omega arith) }
+
+-- a carry of at least c less the difference for each of r rounds, where b′ leaves k: with the reserve raised to a, and then with
+-- one round more, which sends x
+lifted : (a b b′ c k r : ℕ) → b ≤ a → a ≤ b′ → c ≤ k + r * (b′ - b) → c - r * (a - b) ≤ k + r * (b′ - a)
+lifted a b b′ c k r h l q =
+    let d : b′ - b ≡ (a - b) + (b′ - a) = omega arith in
+    let e : r * (b′ - b) ≡ r * (a - b) + r * (b′ - a) = ap (λ (m : ℕ). r * m) d ∙ mul-add r (a - b) (b′ - a) in
     omega arith
 
-pub needed-serves : (xs : List ℕ) (p cap b : ℕ) → needed xs p cap b ≤ b → Serves (sends p xs) cap b
-needed-serves xs p cap b h =
-    let peak = raised-none b (largest (profile b xs) - cap) (after b xs) (omega arith) in
-    let start = raised-none b (carry b xs - p * b) (p + run b xs) (omega arith) in
-    film-serves xs p cap b .1 (omega arith)
+carried-on : (b b′ c k r x : ℕ) → b ≤ b′ → c ≤ k + r * (b′ - b)
+    → (x + c) - b ≤ ((x + k) - b′) + cond (ltb 0 ((x + c) - b)) (r + 1) 0 * (b′ - b)
+carried-on b b′ c k r x h q = pick (ltb 0 ((x + c) - b)) refl
+  where
+    pick : (t : Bool) → ltb 0 ((x + c) - b) ≡ t → (x + c) - b ≤ ((x + k) - b′) + cond t (r + 1) 0 * (b′ - b)
+    pick true e = omega (arith, ltb-true 0 ((x + c) - b) e, add-mul r 1 (b′ - b))
+    pick false e = omega (arith, ltb-false 0 ((x + c) - b) e)
 
--- ---- one pass at two reserves
+-- one round back: the reserve is raised where the round holds too much, and then it is carried on
+module _ (xs : List ℕ) (p cap b₀ k b c r x : ℕ) (some : 0 < k) (within : k ≤ length xs) (here : x ≡ getD xs (k - 1) 0) (bounds : LowerBounds xs p cap b₀ k b c r) where
+  turn-low : (b′ : ℕ) → b₀ ≤ b′ → Serves (sends p xs) cap b′ → raised b ((x + c) - cap) r ≤ b′
+  turn-low b′ h v =
+      let u = film-serves xs p cap b′ .0 v in
+      let held = turn-held b′ k (carry b′ (drop k xs)) x xs some within refl here in
+      raised-least b b′ ((x + c) - cap) r (bounds .low b′ h v)
+      (omega (arith, bounds .left b′ h v, getD-largest (profile b′ xs) (k - 1)))
 
-pub record Tries (xs : List ℕ) (b mid : ℕ) (r : Tried) : Type 0 where
-  pub first-peak : r .most ≡ largest (profile b xs)
-  pub first-after : r .after ≡ after b xs
-  pub first-carry : r .carry ≡ carry b xs
-  pub first-rounds : r .rounds ≡ run b xs
-  pub second-peak : r .peak ≡ largest (profile mid xs)
-  pub second-carry : r .left ≡ carry mid xs
-  pub most-small : r .most ≤ maxHeld
-  pub carry-small : r .carry ≤ maxHeld
-  pub few : r .rounds ≤ maxRounds
+  pub bounds-turn : (a d e s : ℕ) → a ≡ raised b ((x + c) - cap) r → d ≡ c - r * (a - b) → e ≡ (x + d) - a → s ≡ cond (ltb 0 e) (r + 1) 0
+      → LowerBounds xs p cap b₀ (k - 1) a e s
+  bounds-turn a d e s ea ed ee es =
+      let up : b ≤ a = rw ea (raised-within b ((x + c) - cap) r .0) in
+      let start = bounds .from in
+      let low : (b′ : ℕ) → b₀ ≤ b′ → Serves (sends p xs) cap b′ → a ≤ b′ = λ b′ h v. rw ea (turn-low b′ h v) in
+      let left : (b′ : ℕ) → b₀ ≤ b′ → Serves (sends p xs) cap b′ → e ≤ carry b′ (drop (k - 1) xs) + s * (b′ - a) =
+      λ b′ h v.
+      rw (es, ee, sym (turn-carry b′ k (carry b′ (drop k xs)) x xs some within refl here))
+      (carried-on a b′ d (carry b′ (drop k xs)) r x (low b′ h v)
+      (rw ed (lifted a b b′ c (carry b′ (drop k xs)) r up (low b′ h v) (bounds .left b′ h v)))) in
+      let over : a ≤ b₀ → (x + c) - cap ≡ 0 = λ h. raised-none b ((x + c) - cap) r (rw (sym ea) (omega arith)) in
+      let same : a ≤ b₀ → d ≡ c =
+      λ h. let z : a - b ≡ 0 = omega arith in let q : d ≡ c - r * 0 = rw z at ed in omega arith in
+      record {
+        from = omega arith;
+        low = low;
+        left = left;
+        carried =
+            λ h. let b₀-is : b₀ ≡ a = omega arith in
+            let was = bounds .carried (omega arith) in
+            let now = turn-carry b₀ k c x xs some within was here in
+            omega (arith, same h);
+        peak =
+            λ h. let was = bounds .carried (omega arith) in
+            omega (arith, over h, bounds .peak (omega arith), turn-peak b₀ k c x xs some within was here);
+      }
 
--- what they say, where h and q are the two raised reserves and over is what the second falls short by
-module _ (xs : List ℕ) (p cap b mid : ℕ) (t : Tried) (tries : Tries xs b mid t) where
-  pub tried-needed : (h q : ℕ) → h ≡ raised b (t .most - cap) (t .after) → q ≡ raised b (t .carry - p * b) (p + t .rounds)
-      → max h q ≡ needed xs p cap b
-  tried-needed h q eh eq =
-      let first : h ≡ raised b (largest (profile b xs) - cap) (after b xs) = rw (tries .first-peak, tries .first-after) at eh in
-      let second : q ≡ raised b (carry b xs - p * b) (p + run b xs) = rw (tries .first-carry, tries .first-rounds) at eq in
-      rw (first, second)
+-- at the first size: what is left has the pre-fetch rounds too
+pub bounds-end : (xs : List ℕ) (p cap b₀ b c r : ℕ) → LowerBounds xs p cap b₀ 0 b c r → Needs xs p cap b₀ (raised b (c - p * b) (p + r))
+bounds-end xs p cap b₀ b c r bounds = record { least = least; serves = serves }
+  where
+    least : (b′ : ℕ) → b₀ ≤ b′ → Serves (sends p xs) cap b′ → raised b (c - p * b) (p + r) ≤ b′
+    least b′ h v =
+        let u = film-serves xs p cap b′ .0 v in
+        let l = bounds .low b′ h v in
+        let d : b′ ≡ b + (b′ - b) = omega arith in
+        let q : p * b′ ≡ p * b + p * (b′ - b) = ap (λ (k : ℕ). p * k) d ∙ mul-add p b (b′ - b) in
+        raised-least b b′ (c - p * b) (p + r) l (omega (arith, bounds .left b′ h v, add-mul p r (b′ - b)))
 
-  pub tried-serves : (over : ℕ) → over ≡ max (t .peak - cap) (t .left - p * mid) → eqb over 0 ≡ servesBy (sends p xs) cap mid
-  tried-serves over e =
-      let e′ : over ≡ max (largest (profile mid xs) - cap) (carry mid xs - p * mid) = rw (tries .second-peak, tries .second-carry) at e in
-      rw e′ (servesBy-test p cap mid xs)
+    serves : raised b (c - p * b) (p + r) ≤ b₀ → Serves (sends p xs) cap b₀
+    serves h =
+        let up = raised-within b (c - p * b) (p + r) .0 in
+        let e : b ≡ b₀ = omega (arith, bounds .from) in
+        let none = raised-none b (c - p * b) (p + r) (omega (arith, bounds .from)) in
+        let start : c - p * b₀ ≡ 0 = rw e at none in
+        film-serves xs p cap b₀ .1 (omega (arith, bounds .carried (omega arith)), bounds .peak (omega arith))

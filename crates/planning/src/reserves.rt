@@ -1,18 +1,19 @@
-// The least reserve of a film, by bisection and by what each pass shows to be needed.
+// The least reserve of a film, by what each pass shows to be needed and by bisection.
 ghost use mathlib.Core.Path.{_≡_};
 ghost use mathlib.Core.Bool.{cond};
-ghost use Prim.Native.Nat.{ℕ, _+_, _^_, _≤_, _<_};
+ghost use Prim.Native.Nat.{ℕ, _+_, _-_, _*_, _^_, _≤_, _<_};
 ghost use lib.Dec.{ltb};
 ghost use Rattle.films.specs.Layout.{sizesOf};
 ghost use Rattle.films.specs.Decode.{filmsOf};
 ghost use Rattle.films.specs.Sizes.{sizes, Stored};
+ghost use Rattle.limits.specs.Bounds.{maxRounds};
 ghost use Rattle.laws.specs.Questions.{refusal};
 ghost use Rattle.laws.specs.Sums as sums;
 ghost use Rattle.retrieval.specs.Schedule.{sends};
-ghost use Rattle.retrieval.specs.LeastReserve.{Serves, Least, servesBy, leastReserve};
+ghost use Rattle.retrieval.specs.LeastReserve.{Serves, Least, leastReserve};
 ghost use Rattle.retrieval.specs.Stored.{sendsAt, InRange, maxHeld};
 ghost use Rattle.planning.specs.Answers.{reserveBy, capQuestions, reserved};
-ghost use Rattle.planning.specs.Slopes.{raised, needed, Tries};
+ghost use Rattle.planning.specs.Slopes.{raised, Needs};
 use films::catalogue::catalogue;
 use films::lookup::lookup;
 use films::types::Lookup;
@@ -24,6 +25,9 @@ use limits::refusals::PREFETCH;
 use retrieval::carry_before;
 use retrieval::larger;
 use retrieval::less;
+
+// Passes from the lower end on, before bisection.
+const CLIMBS: u64 = 12;
 
 // The answer of a call for a least reserve: a refusal's number, or the bytes per round.
 pub enum Reserve {
@@ -54,71 +58,11 @@ fn extent_of(file: &[u8], at: usize, n: usize) -> Extent
     Extent { largest, total }
 }
 
-// What one pass over a film's sizes finds of two reserves. A round is carried over if something is left to be read before it.
-struct Tried {
-    // the first's peak, and how many rounds in a row after the peak's are carried over
-    most: u64,
-    after: u64,
-    // the first's carry of all the sizes, and how many rounds in a row from the first on are carried over
+// What a pass keeps of the rounds that it has gone back over: a reserve that is needed, and what it leaves at least to be read
+// before them.
+struct Bounds {
+    reserve: u64,
     carry: u64,
-    rounds: u64,
-    // the second's peak, and its carry of all the sizes
-    peak: u64,
-    left: u64,
-}
-
-// What the film needs at least by what a pass finds of the first reserve, and whether the second serves.
-struct Findings {
-    needed: u64,
-    serves: bool,
-}
-
-// The rounds after the peak's: r where this round holds more than those after it, else as it stood.
-fn later(most: u64, h: u64, after: u64, r: u64) -> u64
-    ensures { λ q. ⌜ q ≡ cond (ltb most h) r after ⌝ }
-{
-    if most < h { r } else { after }
-}
-
-// One more round in a row, if something is left to be read before it.
-fn run_on(carry: u64, rounds: u64) -> u64
-    requires { ⌜ rounds < 2 ^ 63 ⌝ }
-    ensures { λ q. ⌜ (q ≡ cond (ltb 0 carry) (rounds + 1) 0) × (q ≤ rounds + 1) ⌝ }
-{
-    if 0 < carry { rounds + 1 } else { 0 }
-}
-
-// One pass at the reserves b and mid.
-fn try_two(file: &[u8], at: usize, n: usize, b: u64, mid: u64) -> Tried
-    requires { ⌜ (InRange (now file) at n 0 b) × (InRange (now file) at n 0 mid) ⌝ }
-    ensures { λ r. ⌜ Tries (sizes (now (file .entry)) at n) b mid r ⌝ }
-{
-    let mut carry: u64 = 0;
-    let mut rounds: u64 = 0;
-    let mut most: u64 = 0;
-    let mut after: u64 = 0;
-    let mut left: u64 = 0;
-    let mut peak: u64 = 0;
-    let mut i = n;
-    while 0 < i {
-        i -= 1;
-        let x = size_at(file, at + 4 * i);
-        let h = x + carry;
-        after = later(most, h, after, rounds);
-        most = larger(most, h);
-        carry = carry_before(x, carry, b);
-        rounds = run_on(carry, rounds);
-        peak = larger(peak, x + left);
-        left = carry_before(x, left, mid);
-    }
-    Tried {
-        most,
-        after,
-        carry,
-        rounds,
-        peak,
-        left,
-    }
 }
 
 // b and `over` shared out over some rounds, rounded up.
@@ -133,42 +77,80 @@ fn raise(b: u64, over: u64, rounds: u64) -> u64
     }
 }
 
-// By one pass, a reserve that the film needs at least, b itself exactly if b serves, and whether mid serves. A reserve serves if
-// it has a schedule with peak at most the cap.
-fn trial(file: &[u8], at: usize, n: usize, p: usize, cap: u64, b: u64, mid: u64) -> Findings
-    requires { ⌜ (InRange (now file) at n p b) × (InRange (now file) at n p mid) ⌝ }
-    ensures { λ r. ⌜ (r .needed ≡ needed (sizes (now (file .entry)) at n) p cap b) × (r .serves ≡ servesBy (sendsAt (now (file .entry)) at n p) cap mid) ⌝ }
+// The reserve b with the carry c before a round that sends x: raised, and the carry less by as much for each of the rounds in a row
+// that are carried over, where the round would hold more than the cap.
+fn raise_to_cap(b: u64, c: u64, x: u64, rounds: u64, cap: u64) -> Bounds
+    requires { ⌜ (b < 2 ^ 62) × (x + c ≤ maxHeld) × (rounds ≤ maxRounds) ⌝ }
+    ensures { λ r. ⌜ (r .reserve ≡ raised b ((x + c) - cap) rounds) × (r .carry ≡ c - rounds * (r .reserve - b)) ⌝ }
 {
-    let t = try_two(file, at, n, b, mid);
-    let ahead = p as u64;
-    let held = raise(b, less(t.most, cap), t.after);
-    let read = raise(b, less(t.carry, ahead * b), ahead + t.rounds);
-    let over = larger(less(t.peak, cap), less(t.left, ahead * mid));
-    Findings {
-        needed: larger(held, read),
-        serves: over == 0,
+    let held = x + c;
+    if held <= cap {
+        return Bounds {
+            reserve: b,
+            carry: c,
+        };
     }
+    let reserve = raise(b, held - cap, rounds);
+    let carry = less(c, rounds * (reserve - b));
+    Bounds { reserve, carry }
 }
 
-// The least reserve that serves, where `high` does and none below `low` does: by bisection, whose lower end moves on to what is
-// found to be needed.
+// The end of the rounds in a row, from i on, that are carried over, where c is the carry before round i and `end` was the end.
+fn row_end(c: u64, i: usize, end: usize) -> usize
+    requires { ⌜ i < end ⌝ }
+    ensures { λ r. ⌜ (r - i ≡ cond (ltb 0 c) ((end - (i + 1)) + 1) 0) × (i ≤ r) × (r ≤ end) ⌝ }
+{
+    if c == 0 { i } else { end }
+}
+
+// By one pass backward from the reserve b, a reserve that the film needs at least: b itself exactly if b serves. A reserve serves
+// if it has a schedule with peak at most the cap. The pass goes on with what it has found to be needed.
+fn needed(file: &[u8], at: usize, n: usize, p: usize, cap: u64, b: u64) -> u64
+    requires { ⌜ InRange (now file) at n p b ⌝ }
+    ensures { λ r. ⌜ Needs (sizes (now (file .entry)) at n) p cap b r ⌝ }
+{
+    let mut reserve = b;
+    let mut carry: u64 = 0;
+    let mut end = n;
+    let mut i = n;
+    while 0 < i {
+        let rounds = (end - i) as u64;
+        i -= 1;
+        let x = size_at(file, at + 4 * i);
+        let bounds = raise_to_cap(reserve, carry, x, rounds, cap);
+        reserve = bounds.reserve;
+        carry = carry_before(x, bounds.carry, bounds.reserve);
+        end = row_end(carry, i, end);
+    }
+    let ahead = p as u64;
+    raise(reserve, less(carry, ahead * reserve), ahead + end as u64)
+}
+
+// The reserve to try between lo and hi: lo while some climbs are left, then the middle.
+fn tried(lo: u64, hi: u64, climbs: u64) -> u64
+    requires { ⌜ lo < hi ⌝ }
+    ensures { λ r. ⌜ (lo ≤ r) × (r < hi) ⌝ }
+{
+    if 0 < climbs { lo } else { lo + (hi - lo) / 2 }
+}
+
+// The least reserve that serves, where `high` does and none below `low` does: from the lower end on, and then by bisection. Each
+// reserve that does not serve gives a larger one that is needed.
 fn search(file: &[u8], at: usize, n: usize, p: usize, cap: u64, low: u64, high: u64) -> u64
     requires { ⌜ (InRange (now file) at n p high) × (Serves (sendsAt (now file) at n p) cap high) × ((b : ℕ) → Serves (sendsAt (now file) at n p) cap b → low ≤ b) ⌝ }
     ensures { λ r. ⌜ Least (sendsAt (now (file .entry)) at n p) cap r ⌝ }
 {
     let mut lo = low;
     let mut hi = high;
+    let mut climbs = CLIMBS;
     while lo < hi {
-        let mid = lo + (hi - lo) / 2;
-        let t = trial(file, at, n, p, cap, lo, mid);
-        if t.needed <= lo {
-            return lo;
-        }
-        if t.serves {
-            hi = mid;
-            lo = t.needed;
+        let b = tried(lo, hi, climbs);
+        climbs = less(climbs, 1);
+        let least = needed(file, at, n, p, cap, b);
+        if least <= b {
+            hi = b;
         } else {
-            lo = larger(t.needed, mid + 1);
+            lo = least;
         }
     }
     lo
@@ -193,7 +175,7 @@ fn least(file: &[u8], at: usize, n: usize, p: u64, cap: u64) -> Reserve
 }
 
 // The least reserve of a film of the file, in bytes per round, with p pre-fetch rounds and a memory cap in bytes; or the number
-// of the first question that says no. At most 25 passes over the film.
+// of the first question that says no. At most CLIMBS + 25 passes over the film.
 pub fn least_reserve(file: &[u8], film: u64, p: u64, cap: u64) -> Reserve
     ensures answer { λ r. ⌜ r ≡ reserved (now (file .entry)) film p cap ⌝ }
     ensures least { λ r. ⌜ ((b : ℕ) → r ≡ Reserve.Bytes b → Least (sends p (sizesOf (filmsOf (now (file .entry))) film)) cap b) ⌝ }
