@@ -5,8 +5,9 @@
 use mathlib.Core.Path.{_≡_, refl, sym, ap, _∙_}
 use mathlib.Core.Bool.{Bool, true, false, cond}
 use mathlib.Core.List.{List, [], _∷_}
-use Prim.Native.Nat.{ℕ, _+_, _-_, _*_, _/_, _≤_, _<_, max}
+use Prim.Native.Nat.{ℕ, suc, _+_, _-_, _*_, _/_, _≤_, _<_, max}
 use native.Mathlib.Nat.{suc-mul, add-mul, mul-add, mul-comm, mul-le-mul-right, div-lt-iff-lt-mul, div-le-self}
+use native.Mathlib.Numerals.{add-one}
 use native.Mathlib.Omega.{arith}
 use borrow.Author.Tests.{ltb-true, ltb-false}
 use lib.Dec.{ltb}
@@ -17,7 +18,7 @@ use Rattle.retrieval.specs.LeastReserve.{Serves}
 use Rattle.retrieval.specs.ReserveLaws.{film-serves, serves-above}
 use Rattle.retrieval.specs.Stored.{turn-held, turn-carry, turn-peak}
 use Rattle.retrieval.specs.Carry.{carry, profile}
-use Rattle.retrieval.specs.CarryLaws.{getD-largest}
+use Rattle.retrieval.specs.CarryLaws.{carry-drop, getD-largest}
 
 -- what a pass at b answers: whatever serves and is at least b is at least r, and b serves if r is no more
 pub record Needs (xs : List ℕ) (p cap b r : ℕ) : Type 0 where
@@ -165,3 +166,47 @@ bounds-end xs p cap b₀ b c r bounds = record { least = least; serves = serves 
         let none = raised-none b (c - p * b) (p + r) (omega (arith, bounds .from)) in
         let start : c - p * b₀ ≡ 0 = rw e at none in
         film-serves xs p cap b₀ .1 (omega (arith, bounds .carried (omega arith)), bounds .peak (omega arith))
+
+-- ---- a pass forward, for the totals alone
+
+-- what it answers: whatever is at least b and reads each total in time is at least r
+pub record Paces (xs : List ℕ) (p b r : ℕ) : Type 0 where
+  pub from : b ≤ r
+  pub least : (b′ : ℕ) → b ≤ b′ → carry b′ xs ≤ p * b′ → r ≤ b′
+
+-- so r is needed where b is
+pub needs-paced : (xs : List ℕ) (p cap b₀ b r : ℕ) → Needs xs p cap b₀ b → Paces xs p b r → Needs xs p cap b₀ r
+needs-paced xs p cap b₀ b r needs paces =
+    record {
+      least = λ b′ h v. paces .least b′ (needs .least b′ h v) (film-serves xs p cap b′ .0 v .0);
+      serves = λ h. needs .serves (omega (arith, paces .from));
+    }
+
+-- A pass from b₀ that has gone on to round k, where `sent` is the total before it, has raised the reserve to b.
+pub record Paced (xs : List ℕ) (p b₀ k b sent : ℕ) : Type 0 where
+  pub from : b₀ ≤ b
+  pub low : (b′ : ℕ) → b₀ ≤ b′ → carry b′ xs ≤ p * b′ → b ≤ b′
+  pub due : (b′ : ℕ) → carry b′ xs ≤ p * b′ → sent + carry b′ (drop k xs) ≤ (p + k) * b′
+
+pub paced-start : (xs : List ℕ) (p b : ℕ) → Paced xs p b 0 b 0
+paced-start xs p b =
+    let z : p + 0 ≡ p = omega arith in record { from = omega arith; low = λ b′ h v. h; due = λ b′ v. rw z (omega arith) }
+
+-- one round on, which sends x
+pub paced-turn : (xs : List ℕ) (p b₀ k b sent x a : ℕ) → k < length xs → x ≡ getD xs k 0 → Paced xs p b₀ k b sent
+    → a ≡ raised b ((sent + x) - (p + (k + 1)) * b) (p + (k + 1)) → Paced xs p b₀ (k + 1) a (sent + x)
+paced-turn xs p b₀ k b sent x a within here paced ea =
+    let up = raised-within b ((sent + x) - (p + (k + 1)) * b) (p + (k + 1)) .0 in
+    let due : (b′ : ℕ) → carry b′ xs ≤ p * b′ → (sent + x) + carry b′ (drop (k + 1) xs) ≤ (p + (k + 1)) * b′ =
+    λ b′ v.
+    let turn = carry-drop b′ xs k within in
+    let rest : carry b′ (drop (k + 1) xs) ≡ carry b′ (drop (suc k) xs) = rw (add-one k) in
+    let more : (p + (k + 1)) * b′ ≡ (p + k) * b′ + b′ = ap (λ (m : ℕ). m * b′) (omega arith) ∙ suc-mul (p + k) b′ in
+    omega (arith, paced .due b′ v) in
+    let low : (b′ : ℕ) → b₀ ≤ b′ → carry b′ xs ≤ p * b′ → a ≤ b′ =
+    λ b′ h v.
+    let l = paced .low b′ h v in
+    let d : b′ ≡ b + (b′ - b) = omega arith in
+    let q : (p + (k + 1)) * b′ ≡ (p + (k + 1)) * b + (p + (k + 1)) * (b′ - b) = ap (λ (m : ℕ). (p + (k + 1)) * m) d ∙ mul-add (p + (k + 1)) b (b′ - b) in
+    rw ea (raised-least b b′ ((sent + x) - (p + (k + 1)) * b) (p + (k + 1)) l (omega (arith, due b′ v))) in
+    record { from = omega (arith, paced .from); low = low; due = due }

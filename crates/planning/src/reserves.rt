@@ -6,14 +6,14 @@ ghost use lib.Dec.{ltb};
 ghost use Rattle.films.specs.Layout.{sizesOf};
 ghost use Rattle.films.specs.Decode.{filmsOf};
 ghost use Rattle.films.specs.Sizes.{sizes, Stored};
-ghost use Rattle.limits.specs.Bounds.{maxRounds};
+ghost use Rattle.limits.specs.Bounds.{maxRounds, maxPrefetch};
 ghost use Rattle.laws.specs.Questions.{refusal};
 ghost use Rattle.laws.specs.Sums as sums;
 ghost use Rattle.retrieval.specs.Schedule.{sends};
 ghost use Rattle.retrieval.specs.LeastReserve.{Serves, Least, leastReserve};
 ghost use Rattle.retrieval.specs.Stored.{sendsAt, InRange, maxHeld};
 ghost use Rattle.planning.specs.Answers.{reserveBy, capQuestions, reserved};
-ghost use Rattle.planning.specs.Slopes.{raised, Needs};
+ghost use Rattle.planning.specs.Slopes.{raised, Needs, Paces};
 use films::catalogue::catalogue;
 use films::lookup::lookup;
 use films::types::Lookup;
@@ -103,8 +103,50 @@ fn row_end(c: u64, i: usize, end: usize) -> usize
     if c == 0 { i } else { end }
 }
 
+// What a pass forward keeps: a reserve that is needed, and what it reads up to a round.
+struct Pace {
+    reserve: u64,
+    most: u64,
+}
+
+// The reserve b with `most`, which it reads in some rounds: raised where the total of these rounds is more.
+fn raise_to_total(b: u64, most: u64, sent: u64, rounds: u64) -> Pace
+    requires { ⌜ (most ≡ rounds * b) × (b < 2 ^ 50) × (sent ≤ maxHeld) × (rounds ≤ maxPrefetch + maxRounds) ⌝ }
+    ensures { λ r. ⌜ (r .reserve ≡ raised b (sent - rounds * b) rounds) × (r .most ≡ rounds * r .reserve) ⌝ }
+{
+    if sent <= most {
+        return Pace { reserve: b, most };
+    }
+    let reserve = raise(b, sent - most, rounds);
+    let more = rounds * reserve;
+    Pace {
+        reserve,
+        most: more,
+    }
+}
+
+// By one pass forward from the reserve b, one that is needed for the total of each round to be read by then.
+fn paced(file: &[u8], at: usize, n: usize, p: usize, b: u64) -> u64
+    requires { ⌜ (Stored (now file) at n) × (p ≤ maxPrefetch) × (b < 2 ^ 49) ⌝ }
+    ensures { λ r. ⌜ Paces (sizes (now (file .entry)) at n) p b r ⌝ }
+{
+    let mut reserve = b;
+    let mut most = (p as u64) * b;
+    let mut sent: u64 = 0;
+    let mut i = 0;
+    while i < n {
+        sent += size_at(file, at + 4 * i);
+        i += 1;
+        let pace = raise_to_total(reserve, most + reserve, sent, (p + i) as u64);
+        reserve = pace.reserve;
+        most = pace.most;
+    }
+    reserve
+}
+
 // By one pass backward from the reserve b, a reserve that the film needs at least: b itself exactly if b serves. A reserve serves
-// if it has a schedule with peak at most the cap. The pass goes on with what it has found to be needed.
+// if it has a schedule with peak at most the cap. The pass goes on with what it has found to be needed; where too much is left to
+// be read before the first size, a pass forward finds what the totals need.
 fn needed(file: &[u8], at: usize, n: usize, p: usize, cap: u64, b: u64) -> u64
     requires { ⌜ InRange (now file) at n p b ⌝ }
     ensures { λ r. ⌜ Needs (sizes (now (file .entry)) at n) p cap b r ⌝ }
@@ -123,7 +165,11 @@ fn needed(file: &[u8], at: usize, n: usize, p: usize, cap: u64, b: u64) -> u64
         end = row_end(carry, i, end);
     }
     let ahead = p as u64;
-    raise(reserve, less(carry, ahead * reserve), ahead + end as u64)
+    let least = raise(reserve, less(carry, ahead * reserve), ahead + end as u64);
+    if least <= reserve {
+        return least;
+    }
+    paced(file, at, n, p, least)
 }
 
 // The reserve to try between lo and hi: lo while some climbs are left, then the middle.
@@ -175,7 +221,7 @@ fn least(file: &[u8], at: usize, n: usize, p: u64, cap: u64) -> Reserve
 }
 
 // The least reserve of a film of the file, in bytes per round, with p pre-fetch rounds and a memory cap in bytes; or the number
-// of the first question that says no. At most CLIMBS + 25 passes over the film.
+// of the first question that says no. At most CLIMBS + 25 passes backward over the film, and one forward.
 pub fn least_reserve(file: &[u8], film: u64, p: u64, cap: u64) -> Reserve
     ensures answer { λ r. ⌜ r ≡ reserved (now (file .entry)) film p cap ⌝ }
     ensures least { λ r. ⌜ ((b : ℕ) → r ≡ Reserve.Bytes b → Least (sends p (sizesOf (filmsOf (now (file .entry))) film)) cap b) ⌝ }

@@ -3,7 +3,7 @@
 use mathlib.Core.Path.{_≡_, sym, _∙_}
 use mathlib.Core.Bool.{cond}
 use mathlib.Core.List.{List}
-use Prim.Native.Nat.{ℕ, _≤_, _<_, _+_, _-_, _*_}
+use Prim.Native.Nat.{ℕ, _≤_, _<_, _+_, _-_, _*_, _^_}
 use native.Mathlib.Nat.{mul-le-mul}
 use native.Mathlib.Omega.{arith}
 use borrow.Author.Needs.{needs}
@@ -12,7 +12,7 @@ use lib.ListN.{length, getD, drop}
 use Rattle.limits.specs.Bounds.{maxSize, maxRounds, maxReserve}
 use Rattle.films.specs.Sizes.{sizes}
 use Rattle.retrieval.specs.Stored.{maxHeld, length-sizes, sizes-at, size-small, drop-sizes}
-use Rattle.planning.specs.Slopes.{raised, raised-within, LowerBounds, bounds-start, bounds-turn, bounds-end}
+use Rattle.planning.specs.Slopes.{raised, raised-within, LowerBounds, Needs, bounds-start, bounds-turn, bounds-end, needs-paced}
 use Rattle.planning.proofs.reserves.needed.Statement.{statement}
 use Rattle.planning.proofs.reserves.needed.Tie as tie
 
@@ -40,6 +40,19 @@ reserve-turn n i b r h a some within hh hr ha = let t : n - (i - 1) ≡ (n - i) 
 
 one-less : (i : ℕ) → 0 < i → i - 1 < i
 one-less i some = omega arith
+
+least-top : (n i b reserve carry : ℕ) → n ≤ maxRounds → b ≤ maxReserve → carry ≤ maxSize * (n - i) → reserve ≤ b + maxHeld * (n - i)
+    → reserve + carry < 2 ^ 49
+least-top n i b reserve carry few hb hc hr = let l : n - i ≤ maxRounds = omega arith in omega arith
+
+-- what the loop leaves, raised at its end
+found : (xs : List ℕ) (p cap b i reserve carry end over least : ℕ) → i ≤ 0 → LowerBounds xs p cap b i reserve carry (end - i)
+    → over ≡ carry - p * reserve → least ≡ raised reserve over (p + end) → Needs xs p cap b least
+found xs p cap b i reserve carry end over least h bounds eo el =
+    let z : i ≡ 0 = omega arith in
+    let all : end - 0 ≡ end = omega arith in
+    let at-start : LowerBounds xs p cap b 0 reserve carry (end - 0) = rw z at bounds in
+    rw (el, eo) (bounds-end xs p cap b reserve carry end (rw all at at-start))
 
 abbrev Inv-loop : tie.InvT-loop
 Inv-loop file at n p cap b reserve₀ carry₀ end₀ i₀ reserve carry end i = Going (sizes file at n) n p cap b reserve carry end i
@@ -158,15 +171,36 @@ raise-requires c κs = search needs
 
 returns : tie.Need-returns Inv-loop μ-loop
 returns c =
-    let start = c .before .before .before .before .before in
+    let start = c .before .before .before .before .before .before in
     let a = start .args in
-    let l = c .before .before .before .loop in
-    let z : l .i ≡ 0 = omega arith in
-    let bounds : LowerBounds (sizes (a .file .now) (a .at) (a .n)) (a .p) (a .cap) (a .b) 0 (l .reserve) (l .carry) (l .end - 0) = rw z at (l .inv .bounds) in
-    let all : l .end - 0 ≡ l .end = omega arith in
-    let is : c .raise .result ≡ raised (l .reserve) (l .carry - a .p * l .reserve) (a .p + l .end) = rw (c .before .less .ensures) at (c .raise .ensures) in
-    rw is
-    (bounds-end (sizes (a .file .now) (a .at) (a .n)) (a .p) (a .cap) (a .b) (l .reserve) (l .carry) (l .end) (rw all at bounds))
+    let l = c .before .before .before .before .loop in
+    found (sizes (a .file .now) (a .at) (a .n)) (a .p) (a .cap) (a .b) (l .i) (l .reserve) (l .carry) (l .end) (c .before .before .less .result)
+    (c .before .raise .result) (c .before .before .before .loop-test .left) (l .inv .bounds) (c .before .before .less .ensures) (c .before .raise .ensures)
+
+paced-requires : tie.Need-paced-requires Inv-loop μ-loop
+paced-requires c κs =
+    let start = c .before .before .before .before .before .before in
+    let a = start .args in
+    let l = c .before .before .before .before .loop in
+    let over = c .before .before .less in
+    let film = start .pre in
+    let top = least-top (a .n) (l .i) (a .b) (l .reserve) (l .carry) (film .stored .few) (film .reserve) (l .inv .carry-small) (l .inv .reserve-small) in
+    let up = raised-within (l .reserve) (over .result) (a .p + l .end) .1 in
+    let less : over .result ≤ l .carry = omega (arith, over .ensures) in
+    (film .stored, film .prefetch, omega (arith, c .before .raise .ensures))
+
+returns-2 : tie.Need-returns-2 Inv-loop μ-loop
+returns-2 c =
+    let start = c .before .before .before .before .before .before .before in
+    let a = start .args in
+    let l = c .before .before .before .before .before .loop in
+    let xs = sizes (a .file .now) (a .at) (a .n) in
+    let over = c .before .before .before .less in
+    let raise = c .before .before .raise in
+    needs-paced xs (a .p) (a .cap) (a .b) (raise .result) (c .paced .result)
+    (found xs (a .p) (a .cap) (a .b) (l .i) (l .reserve) (l .carry) (l .end) (over .result) (raise .result)
+    (c .before .before .before .before .loop-test .left) (l .inv .bounds) (over .ensures) (raise .ensures))
+    (c .paced .ensures)
 
 pub needed-spec : {M : Type 1} → statement M
 needed-spec =
@@ -189,4 +223,6 @@ needed-spec =
     less-requires
     add-raise
     raise-requires
-    returns)
+    returns
+    paced-requires
+    returns-2)
