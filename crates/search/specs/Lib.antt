@@ -5,4 +5,5 @@ pub mod FitLaws
 pub mod WindowLaws
 pub mod StepLaws
 pub mod CabLaws
+pub mod MemoryLaws
 pub mod ProfileLaws

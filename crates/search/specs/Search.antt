@@ -66,6 +66,18 @@ pub record SomeFails (f : ℕ → Bool) (n r : ℕ) : Type 0 where
   pub fails : r < n → f r ≡ false
   pub pass : n ≤ r → (j : ℕ) → j < n → f j ≡ true
 
+-- of the numbers a to e - 1, r is one that fails a test, or e, and e only if all of them pass
+pub record SomeFailsIn (f : ℕ → Bool) (a e r : ℕ) : Type 0 where
+  pub low : a ≤ r
+  pub high : r ≤ e
+  pub fails : r < e → f r ≡ false
+  pub pass : e ≤ r → (t : ℕ) → a ≤ t → t < e → f t ≡ true
+
+-- each start from s to r - 1 fails a test in one of n rounds
+pub record RefusedTo (f : ℕ → ℕ → Bool) (n s r : ℕ) : Type 0 where
+  pub later : s ≤ r
+  pub fails : (u : ℕ) → s ≤ u → u < r → ((j : ℕ) → j < n → f u j ≡ true) → ⊥
+
 -- a test fails at each start from s to r - 1, and passes at s if there is none
 pub record FailsTo (f : ℕ → Bool) (s r : ℕ) : Type 0 where
   pub later : s ≤ r

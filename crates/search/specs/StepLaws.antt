@@ -1,14 +1,29 @@
 -- What a step of the search finds out, from its four tests. Assumes nothing.
-use mathlib.Core.Path.{_≡_, sym, _∙_}
-use mathlib.Core.Bool.{true, false, true≢false}
+use mathlib.Core.Path.{_≡_, sym, ap, _∙_}
+use mathlib.Core.Bool.{Bool, true, false, true≢false}
 use Prim.Native.Nat.{ℕ, _+_, _-_, _≤_, _<_, max}
 use native.Mathlib.Decide.{decLe}
 use native.Mathlib.Omega.{arith}
-use Rattle.search.specs.Search.{Tests, fits, PassFrom, SomeFails, FailsTo, Clear, Skips, NoneFits}
-use Rattle.search.specs.FitLaws.{fits-cabs, fits-all, disk-rules-out, memory-rules-out}
+use Rattle.search.specs.Search.{Tests, fits, PassFrom, SomeFails, RefusedTo, FailsTo, Clear, Skips, NoneFits}
+use Rattle.search.specs.FitLaws.{fits-cabs, fits-memory, fits-all, disk-rules-out, memory-rules-out}
+
+-- one start more that fails a test in one of n rounds
+pub refused-next : (f : ℕ → ℕ → Bool) (n s r j : ℕ) → RefusedTo f n s r → f r j ≡ false → j < n → RefusedTo f n s (r + 1)
+refused-next f n s r j k e h = record { later = omega (arith, k .later); fails = λ u l m all. go u l m all (decLe r u) }
+  where
+    go : (u : ℕ) → s ≤ u → u < r + 1 → ((i : ℕ) → i < n → f u i ≡ true) → Dec (r ≤ u) → ⊥
+    go u l m all (yes d) =
+        let same : u ≡ r = omega arith in
+        absurd (true≢false (sym (all j h) ∙ ap (λ (v : ℕ). f v j) same ∙ e))
+    go u l m all (no d) = k .fails u l (omega arith) all
 
 module _ (q : Tests) where
-  clear-on : (s u clear : ℕ) → s ≤ u → Clear q s clear → Clear q u clear
+  -- starts that memory refuses
+  pub none-refused : (s r : ℕ) → RefusedTo (q .memory) (q .rounds) s r → NoneFits q s r
+  none-refused s r k u h l e = k .fails u h l (fits-memory q u e)
+
+  -- what is known of a start's rounds is known of a later start's
+  pub clear-on : (s u clear : ℕ) → s ≤ u → Clear q s clear → Clear q u clear
   clear-on s u clear h k = record { near = omega (arith, k .near); free = λ t l m. k .free t (omega arith) m }
 
   -- a round over the memory limit: only the start itself is ruled out

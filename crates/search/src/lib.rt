@@ -2,11 +2,10 @@
 mod cabs;
 mod disk;
 mod memory;
+mod profile;
 mod window;
 
 use limits::bounds::MAX_BOOKINGS;
-use limits::bounds::MAX_PREFETCH;
-use limits::bounds::MAX_ROUNDS;
 use load::stream::Stream;
 ghost use mathlib.Core.Path.{_≡_};
 ghost use Prim.Native.Nat.{_≤_};
@@ -22,9 +21,6 @@ pub enum Found {
     At(u64),
     Nowhere,
 }
-
-// rounds that a stream is open, at most
-const MAX_LENGTH: usize = MAX_PREFETCH as usize + MAX_ROUNDS;
 
 // The first start from first to last at which the stream y, whatever its own start, fits beside the first count streams of xs,
 // where opens, reserves and helds are the day sheet of those.
@@ -46,26 +42,13 @@ pub fn first_start(
         × (Window (queryOf y (profileOf (now file) y) (take count xs) (now opens) (now reserves) (now helds) disk memory) last) ⌝ }
     ensures { λ r. ⌜ r ≡ answerOf (firstOf (fitsAt (queryOf y (profileOf (now (file .entry)) y) (take count xs) (now (opens .entry)) (now (reserves .entry)) (now (helds .entry)) disk memory)) first last) ⌝ }
 {
-    let n = y.prefetch + y.rounds;
-    let mut profile = [0u64; MAX_LENGTH];
-    retrieval::add_held(
-        &mut profile,
-        file,
-        y.at,
-        y.rounds,
-        y.prefetch,
-        y.reserve,
-        0,
-        n,
-        0,
-    );
     let mut shows = [0u64; MAX_BOOKINGS];
     let mut ends = [0u64; MAX_BOOKINGS];
     let sharing = cabs::fill(xs, count, y, &mut shows, &mut ends);
     let losses = loss::table();
-    window::first_fit(
+    profile::first_start(
+        file,
         y,
-        &profile,
         &shows[..sharing],
         &ends[..sharing],
         &losses,

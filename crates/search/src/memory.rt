@@ -1,8 +1,18 @@
 // Rounds that memory can take.
+use retrieval::less;
 ghost use mathlib.Core.Path.{_≡_};
-ghost use Prim.Native.Nat.{_+_};
+ghost use Prim.Native.Nat.{_+_, _-_, _≤_, min};
+ghost use lib.ListN.{length};
+ghost use Rattle.laws.specs.Tests.{below};
 ghost use Rattle.search.specs.Fit.{HeldRows, memoryFits};
-ghost use Rattle.search.specs.Search.{Fails, SomeFails};
+ghost use Rattle.search.specs.Search.{Fails, SomeFails, SomeFailsIn};
+ghost use Rattle.search.specs.MemoryLaws.{bothFit, Parts};
+
+// rounds that are tested together
+const TOGETHER: usize = 64;
+
+// The largest number below 2^63. What a round of the day and one of a stream hold together is no more.
+const MOST: u64 = 9223372036854775807;
 
 // Whether memory takes what a stream from s on holds in round j of its own.
 pub fn takes(helds: &[u64], memory: u64, profile: &[u64], s: usize, j: usize) -> bool
@@ -12,23 +22,102 @@ pub fn takes(helds: &[u64], memory: u64, profile: &[u64], s: usize, j: usize) ->
     helds[s + j] + profile[j] <= memory
 }
 
+// Does memory take both of two parts, a part of the day and one of a stream, in each of their rounds? A sum is more than memory
+// exactly if it reaches 2^63 when MOST less memory is added, and the join of all of them reaches it exactly if one does. A loop
+// without a test becomes vector code.
+fn all_taken(helds: &[u64], memory: u64, profile: &[u64]) -> bool
+    requires { ⌜ Parts (now helds) (now profile) ⌝ }
+    ensures { λ r. ⌜ r ≡ below (length (now (helds .entry))) (bothFit (now (helds .entry)) memory (now (profile .entry))) ⌝ }
+{
+    let more = less(MOST, memory);
+    let mut joined: u64 = 0;
+    let mut i = 0;
+    while i < helds.len() {
+        joined = joined | (helds[i] + profile[i] + more);
+        i += 1;
+    }
+    joined <= MOST
+}
+
+// The last round of two parts in which memory cannot take both; their length if there is none.
+fn last_over(helds: &[u64], memory: u64, profile: &[u64]) -> usize
+    requires { ⌜ Parts (now helds) (now profile) ⌝ }
+    ensures { λ r. ⌜ SomeFails (bothFit (now (helds .entry)) memory (now (profile .entry))) (length (now (helds .entry))) r ⌝ }
+{
+    let mut e = helds.len();
+    while 0 < e {
+        e -= 1;
+        if memory < helds[e] + profile[e] {
+            return e;
+        }
+    }
+    helds.len()
+}
+
+// Of the rounds a to e - 1 of a stream from s on, one in which memory cannot take it; e if there is none.
+fn part_over(helds: &[u64], memory: u64, profile: &[u64], s: usize, a: usize, e: usize) -> usize
+    requires { ⌜ (a ≤ e) × (HeldRows (now helds) (s + e)) × (HeldRows (now profile) e) ⌝ }
+    ensures { λ r. ⌜ SomeFailsIn (λ j. memoryFits (now (helds .entry)) memory (now (profile .entry)) s j) a e r ⌝ }
+{
+    let from = s + a;
+    let to = s + e;
+    let day = &helds[from..to];
+    let own = &profile[a..e];
+    if all_taken(day, memory, own) {
+        return e;
+    }
+    a + last_over(day, memory, own)
+}
+
+// The round after those that are tested together with e.
+fn block_end(e: usize, n: usize) -> usize
+    requires { ⌜ e ≤ n ⌝ }
+    ensures { λ r. ⌜ r ≡ min (e + 64) n ⌝ }
+{
+    if n - e < TOGETHER { n } else { e + TOGETHER }
+}
+
+// The first of the rounds that are tested together with the one before a.
+fn block_start(a: usize) -> usize
+    ensures { λ r. ⌜ r ≡ a - 64 ⌝ }
+{
+    if a < TOGETHER { 0 } else { a - TOGETHER }
+}
+
+fn smaller(a: usize, b: usize) -> usize
+    ensures { λ r. ⌜ r ≡ min a b ⌝ }
+{
+    if a < b { a } else { b }
+}
+
 // Of the rounds 0 to n - 1 of a stream from s on, one in which memory cannot take it; n if there is none. They are looked at from
-// both ends at once, so that neither a round near the first nor one near the last is found late.
-pub fn some_over(helds: &[u64], memory: u64, profile: &[u64], s: usize, n: usize) -> usize
+// round near on in both directions, since starts that follow each other are mostly refused in rounds that are not far apart.
+pub fn some_over(
+    helds: &[u64],
+    memory: u64,
+    profile: &[u64],
+    s: usize,
+    n: usize,
+    near: usize,
+) -> usize
     requires { ⌜ (HeldRows (now helds) (s + n)) × (HeldRows (now profile) n) ⌝ }
     ensures { λ r. ⌜ SomeFails (λ j. memoryFits (now (helds .entry)) memory (now (profile .entry)) s j) n r ⌝ }
 {
-    let mut j = 0;
-    let mut e = n;
-    while j < e {
-        if !takes(helds, memory, profile, s, j) {
-            return j;
+    let mut a = smaller(near, n);
+    let mut e = a;
+    while e - a < n {
+        let to = block_end(e, n);
+        let later = part_over(helds, memory, profile, s, e, to);
+        if later < to {
+            return later;
         }
-        e -= 1;
-        if !takes(helds, memory, profile, s, e) {
-            return e;
+        let from = block_start(a);
+        let earlier = part_over(helds, memory, profile, s, from, a);
+        if earlier < a {
+            return earlier;
         }
-        j += 1;
+        a = from;
+        e = to;
     }
     n
 }

@@ -5,10 +5,11 @@ use crate::disk;
 use crate::memory;
 use load::stream::Stream;
 ghost use mathlib.Core.Path.{_≡_};
-ghost use Prim.Native.Nat.{_≤_, max};
+ghost use Prim.Native.Nat.{_+_, _≤_, max};
+ghost use Rattle.limits.specs.Bounds.{maxDay};
 ghost use Rattle.model.specs.Fit.{firstOf};
-ghost use Rattle.search.specs.Fit.{answerOf};
-ghost use Rattle.search.specs.Search.{fits, testsOf, Walks, Clear, Tells};
+ghost use Rattle.search.specs.Fit.{answerOf, memoryFits, HeldRows};
+ghost use Rattle.search.specs.Search.{fits, testsOf, RefusedTo, Walks, Clear, Tells};
 
 // A start to try, the round up to which its rounds are known to be free for the disk, and the last two rounds of the stream's own
 // in which memory refused starts before.
@@ -29,6 +30,42 @@ fn larger(a: usize, b: usize) -> usize
     ensures { λ r. ⌜ r ≡ max a b ⌝ }
 {
     if a < b { b } else { a }
+}
+
+// The first start from a candidate's on that memory does not refuse in round near or the one before it; near is each time the
+// round that refused. After last there is none to try.
+pub fn skip_near(
+    helds: &[u64],
+    memory: u64,
+    profile: &[u64],
+    n: usize,
+    last: usize,
+    c: Candidate,
+) -> Candidate
+    requires { ⌜ (last + n ≤ maxDay) × (HeldRows (now helds) (last + n)) × (HeldRows (now profile) n) ⌝ }
+    ensures { λ r. ⌜ (RefusedTo (λ s j. memoryFits (now (helds .entry)) memory (now (profile .entry)) s j) n (c .start) (r .start)) × (r .clear ≡ c .clear) ⌝ }
+{
+    let mut start = c.start;
+    let mut near = c.near;
+    while start <= last {
+        let round = memory::near_over(helds, memory, profile, start, n, near);
+        if n <= round {
+            return Candidate {
+                start,
+                clear: c.clear,
+                near,
+                other: c.other,
+            };
+        }
+        near = round;
+        start += 1;
+    }
+    Candidate {
+        start,
+        clear: c.clear,
+        near,
+        other: c.other,
+    }
 }
 
 // Tries a start of a window. The cheapest test comes first. The disk's rounds are looked at from the far end, so that the last
@@ -55,15 +92,6 @@ pub fn try_start(
 {
     let start = c.start;
     let n = y.prefetch + y.rounds;
-    let near = memory::near_over(helds, memory, profile, start, n, c.near);
-    if near < n {
-        return Step::Next(Candidate {
-            start: start + 1,
-            clear: c.clear,
-            near,
-            other: c.other,
-        });
-    }
     let other = memory::near_over(helds, memory, profile, start, n, c.other);
     if other < n {
         return Step::Next(Candidate {
@@ -84,7 +112,7 @@ pub fn try_start(
             other: c.other,
         });
     }
-    let over = memory::some_over(helds, memory, profile, start, n);
+    let over = memory::some_over(helds, memory, profile, start, n, c.near);
     if over < n {
         return Step::Next(Candidate {
             start: start + 1,
@@ -129,7 +157,12 @@ pub fn first_fit(
         near: 0,
         other: 0,
     };
+    let n = y.prefetch + y.rounds;
     while c.start <= last {
+        let next = skip_near(helds, memory, profile, n, last, c);
+        if last < next.start {
+            return Found::Nowhere;
+        }
         let step = try_start(
             y,
             profile,
@@ -142,14 +175,14 @@ pub fn first_fit(
             disk,
             memory,
             last,
-            c,
+            next,
         );
         match step {
             Step::Fits => {
-                return Found::At(c.start as u64);
+                return Found::At(next.start as u64);
             }
-            Step::Next(next) => {
-                c = next;
+            Step::Next(after) => {
+                c = after;
             }
         }
     }

@@ -1,76 +1,87 @@
--- `search::memory::some_over` meets its contract. The invariant: memory takes the stream in each round before j and from e on. The
--- measure is what is left between them. Assumes nothing.
+-- `search::memory::some_over` meets its contract. The invariant: memory takes the stream in each round from a to e - 1. The measure is
+-- what is left outside of them. Assumes nothing.
 use Prim.Native.Nat.{ℕ, _+_, _-_, _≤_, _<_}
-use mathlib.Core.Path.{_≡_, sym, _∙_}
-use mathlib.Core.Bool.{Bool, true}
+use mathlib.Core.Path.{_≡_}
+use mathlib.Core.Bool.{true}
 use native.Mathlib.Omega.{arith}
 use borrow.Author.Needs.{needs}
-use borrow.Author.Count.{below-more}
-use borrow.Author.Tests.{not-true, not-false}
 use Rattle.search.specs.Fit.{memoryFits}
-use Rattle.search.specs.FitLaws.{fewer-held, pass-more, pass-both}
+use Rattle.search.specs.FitLaws.{fewer-held}
+use Rattle.search.specs.MemoryLaws.{pass-around, block-less}
 use Rattle.search.proofs.memory.some_over.Statement.{statement}
 use Rattle.search.proofs.memory.some_over.Tie as tie
 
 abbrev Inv-loop : tie.InvT-loop
-Inv-loop helds memory profile s n j₀ e₀ j e =
-    (j ≤ e + 1) × (e ≤ n) × ((i : ℕ) → i < j → memoryFits helds memory profile s i ≡ true)
-    × ((i : ℕ) → e ≤ i → i < n → memoryFits helds memory profile s i ≡ true)
+Inv-loop helds memory profile s n near a₀ e₀ a e =
+    (a ≤ e) × (e ≤ n) × ((t : ℕ) → a ≤ t → t < e → memoryFits helds memory profile s t ≡ true)
 
 abbrev μ-loop : tie.MeasureT-loop
-μ-loop helds memory profile s n j₀ e₀ j e = e - j
+μ-loop helds memory profile s n near a₀ e₀ a e = n - (e - a)
+
+smaller-requires : tie.Need-smaller-requires Inv-loop μ-loop
+smaller-requires c κs = search needs
 
 loop-holds : tie.Need-loop-holds Inv-loop μ-loop
-loop-holds c = (omega arith, omega arith, λ i h. absurd (omega arith), λ i h k. absurd (omega arith))
+loop-holds c = (omega arith, omega (arith, c .smaller .ensures), λ t h k. absurd (omega arith))
 
-takes-requires : tie.Need-takes-requires Inv-loop μ-loop
-takes-requires c κs =
-    let start = c .before .before .before .before in
-    let a = start .args in
-    let j = c .before .loop .j in
-    (fewer-held (a .s + j + 1) (omega arith) (start .pre .0), fewer-held (j + 1) (omega arith) (start .pre .1))
+sub-loop : tie.Need-sub-loop Inv-loop μ-loop
+sub-loop c = search needs
+
+block-end-requires : tie.Need-block-end-requires Inv-loop μ-loop
+block-end-requires c κs = search needs
+
+part-over-requires : tie.Need-part-over-requires Inv-loop μ-loop
+part-over-requires c κs =
+    let start = c .before .before .before .before .before .before in
+    let to = c .block-end in (
+      omega (arith, to .ensures),
+      fewer-held (start .args .s + to .result) (omega (arith, to .ensures)) (start .pre .0),
+      fewer-held (to .result) (omega (arith, to .ensures)) (start .pre .1),
+    )
 
 returns : tie.Need-returns Inv-loop μ-loop
 returns c =
-    record { within = omega arith; fails = λ h. sym (c .before .takes .ensures) ∙ not-true (c .before .takes .result) (c .if1 .taken); pass = λ h. absurd (omega arith) }
+    let to = c .before .before .block-end in
+    record { within = omega (arith, to .ensures); fails = λ h. c .before .part-over .ensures .fails (c .if1 .taken); pass = λ h. absurd (omega (arith, to .ensures)) }
 
-sub-e : tie.Need-sub-e Inv-loop μ-loop
-sub-e c = search needs
+block-start-requires : tie.Need-block-start-requires Inv-loop μ-loop
+block-start-requires c κs = search needs
 
-takes-requires-2 : tie.Need-takes-requires-2 Inv-loop μ-loop
-takes-requires-2 c κs =
-    let start = c .before .before .before .before .before .before in
-    let a = start .args in
-    let e = c .before .before .before .loop .e - 1 in
-    (fewer-held (a .s + e + 1) (omega arith) (start .pre .0), fewer-held (e + 1) (omega arith) (start .pre .1))
+part-over-requires-2 : tie.Need-part-over-requires-2 Inv-loop μ-loop
+part-over-requires-2 c κs =
+    let start = c .before .before .before .before .before .before .before .before .before in
+    let l = c .before .before .before .before .before .loop in (
+      omega (arith, c .block-start .ensures),
+      fewer-held (start .args .s + l .a) (omega arith) (start .pre .0),
+      fewer-held (l .a) (omega arith) (start .pre .1),
+    )
 
 returns-2 : tie.Need-returns-2 Inv-loop μ-loop
 returns-2 c =
-    record { within = omega arith; fails = λ h. sym (c .before .takes2 .ensures) ∙ not-true (c .before .takes2 .result) (c .if2 .taken); pass = λ h. absurd (omega arith) }
-
-add-j : tie.Need-add-j Inv-loop μ-loop
-add-j c = search needs
+    record { within = omega arith; fails = λ h. c .before .part-over2 .ensures .fails (c .if2 .taken); pass = λ h. absurd (omega arith) }
 
 loop-less : tie.Need-loop-less Inv-loop μ-loop
-loop-less c = search needs
+loop-less c =
+    let l = c .before .before .before .before .before .before .before .loop in
+    let from = c .before .before .block-start in
+    let to = c .before .before .before .before .before .block-end in
+    block-less (l .a) (l .e) (c .before .before .before .before .before .before .before .before .before .before .before .args .n) (from .result) (to .result) (from .ensures) (to .ensures) (l .inv .0) (l .inv .1) (c .before .before .before .before .before .before .loop-test .taken)
 
 loop-again : tie.Need-loop-again Inv-loop μ-loop
 loop-again c =
-    let a = c .before .before .before .before .before .before .before .before .args in
-    let l = c .before .before .before .before .before .loop in
-    let f : ℕ → Bool = memoryFits (a .helds .now) (a .memory) (a .profile .now) (a .s) in (
-      omega arith,
-      omega arith,
-      below-more (λ i. f i ≡ true) (l .j) (l .inv .2) (sym (c .before .before .before .takes .ensures) ∙ not-false (c .before .before .before .takes .result) (c .before .before .if1 .left)),
-      pass-more f (l .e) (a .n) (l .inv .3) (sym (c .before .takes2 .ensures) ∙ not-false (c .before .takes2 .result) (c .if2 .left)),
+    let a = c .before .before .before .before .before .before .before .before .before .before .before .args in
+    let l = c .before .before .before .before .before .before .before .loop in
+    let from = c .before .before .block-start in
+    let to = c .before .before .before .before .before .block-end in (
+      omega (arith, from .ensures, to .ensures),
+      omega (arith, to .ensures),
+      pass-around (memoryFits (a .helds .now) (a .memory) (a .profile .now) (a .s)) (from .result) (l .a) (l .e) (to .result) (l .inv .2) (c .before .before .before .before .part-over .ensures .pass (c .before .before .before .if1 .left)) (c .before .part-over2 .ensures .pass (c .if2 .left)),
     )
 
 returns-3 : tie.Need-returns-3 Inv-loop μ-loop
 returns-3 c =
-    let a = c .before .before .before .before .args in
     let l = c .before .loop in
-    let f : ℕ → Bool = memoryFits (a .helds .now) (a .memory) (a .profile .now) (a .s) in
-    record { within = omega arith; fails = λ h. absurd (omega arith); pass = λ h. pass-both f (l .j) (l .e) (a .n) (omega arith) (l .inv .2) (l .inv .3) }
+    record { within = omega arith; fails = λ h. absurd (omega arith); pass = λ h t k. l .inv .2 t (omega arith) (omega arith) }
 
 pub some-over-spec : {M : Type 1} → statement M
 some-over-spec =
@@ -78,13 +89,15 @@ some-over-spec =
     (tie.spec
     Inv-loop
     μ-loop
+    smaller-requires
     loop-holds
-    takes-requires
+    sub-loop
+    block-end-requires
+    part-over-requires
     returns
-    sub-e
-    takes-requires-2
+    block-start-requires
+    part-over-requires-2
     returns-2
-    add-j
     loop-less
     loop-again
     returns-3)
