@@ -20,8 +20,11 @@ use Rattle.load.specs.Basic.{Bounded, EachOf}
 use Rattle.load.specs.Disk.{diskKept, startsKept}
 use Rattle.load.specs.Lists.{filled-next, take-filled, length-filled, map-at, ltb-same}
 use Rattle.load.specs.Stream.{noStream, endOf, openIn, openCount, reservedIn, clashes, pairsClear}
-use Rattle.load.specs.Columns.{shownOf, column, Row, rows, DiskColumns, CabColumns, timesIn, allDiffer}
-use Rattle.load.specs.Columns.{openFrom, openRows, reserveRows, rowsKept, rowsClash, rowsClear}
+use Rattle.lists.specs.Rows.{Row, rows}
+use Rattle.lists.specs.Names.{timesIn, allDiffer}
+use Rattle.lists.specs.Cabs.{CabColumns, rowsClash, rowsClear}
+use Rattle.lists.specs.Disk.{DiskColumns, openFrom, openRows, reserveRows, rowsKept}
+use Rattle.load.specs.Columns.{shownOf, column}
 use Rattle.load.specs.declared.stream.Stream.{Stream}
 
 -- ---- a column
@@ -48,15 +51,6 @@ module _ {A : Type 0} (f : A → ℕ) (l : List A) where
         rw (column-lent, map-at f (take n l) i d 0 (omega (arith, length-take-le n l h)), getD-take n l i d u)
 
 -- ---- three columns side by side
-
-module _ (k l m : List ℕ) (i : ℕ) where
-  pub rows-next : i < length k → length l ≡ length k → length m ≡ length k
-      → rows (drop i k) (drop i l) (drop i m)
-      ≡ (getD k i 0, getD l i 0, getD m i 0) ∷ rows (drop (i + 1) k) (drop (i + 1) l) (drop (i + 1) m)
-  rows-next h p q = simp (drop-cons k i 0 h, drop-cons l i 0 (omega arith), drop-cons m i 0 (omega arith), add-one)
-
-  pub rows-end : i ≡ length k → rows (drop i k) (drop i l) (drop i m) ≡ []
-  rows-end e = rw (e, drop-length)
 
 pub rows-map : {A : Type 0} (f g h : A → ℕ) (l : List A) → rows (map f l) (map g l) (map h l) ≡ map (λ a. (f a, g a, h a)) l
 rows-map f g h [] = refl
@@ -128,29 +122,6 @@ module _ (xs : List Stream) (n : ℕ) (h : n ≤ length xs) (k : n ≤ maxBookin
 abbrev pub cabRow : Stream → Row
 cabRow x = (x .cabs, shownOf x, endOf x)
 
-leb-not : (a b : ℕ) → leb a b ≡ not (ltb b a)
-leb-not a b = go (leb a b) refl
-  where
-    go : (v : Bool) → leb a b ≡ v → leb a b ≡ not (ltb b a)
-    go true e = rw (le-ltb b a (leb-true a b e)) e
-    go false e = rw (lt-ltb b a (leb-false a b e)) e
-
-pub clear-apart : (x y : Row) → bitAnd (x .0) (y .0) ≡ 0 → not (rowsClash x y) ≡ true
-unfolding rowsClash
-clear-apart x y e = rw (eq-eqb (bitAnd (x .0) (y .0)) 0 e)
-
--- with a cab in common, what counts is whether they show in a common round
-module _ (x y : Row) (e : bitAnd (x .0) (y .0) ≡ 0 → ⊥) where
-  -- x begins to show after y has ended
-  pub clear-after : y .2 ≤ x .1 → not (rowsClash x y) ≡ true
-  unfolding rowsClash
-  clear-after h = rw (ne-eqb (bitAnd (x .0) (y .0)) 0 e, le-ltb (x .1) (y .2) h)
-
-  -- else they do exactly if y begins to show before x has ended
-  pub clear-before : x .1 < y .2 → leb (x .2) (y .1) ≡ not (rowsClash x y)
-  unfolding rowsClash
-  clear-before h = rw (ne-eqb (bitAnd (x .0) (y .0)) 0 e, lt-ltb (x .1) (y .2) h) (leb-not (x .2) (y .1))
-
 -- of two spans that are not empty, each begins before the other ends exactly if they have a round in common
 both-begun : (a b c d : ℕ) → a < b → c < d → ltb a d && ltb c b ≡ ltb (max a c) (min b d)
 both-begun a b c d h k = go (ltb a d) refl
@@ -205,14 +176,6 @@ module _ (xs : List Stream) (n : ℕ) (h : n ≤ length xs) (k : n ≤ maxBookin
       rw (getD-take n xs i noStream v) (b i v .some)))
 
 -- ---- names
-
-pub times-next : (n : ℕ) (ns : List ℕ) (i : ℕ) → i < length ns
-    → timesIn n (drop i ns) ≡ cond (eqb (getD ns i 0) n) 1 0 + timesIn n (drop (i + 1) ns)
-times-next n ns i h = simp (drop-cons ns i 0 h, add-one)
-
-pub differ-next : (ns : List ℕ) (i : ℕ) → i < length ns
-    → allDiffer (drop i ns) ≡ eqb (timesIn (getD ns i 0) (drop (i + 1) ns)) 0 && allDiffer (drop (i + 1) ns)
-differ-next ns i h = simp (drop-cons ns i 0 h, add-one)
 
 pub times-names : (n : ℕ) (bs : List Booking) → eqb (timesIn n (map (λ b. b .name) bs)) 0 ≡ not (hasName n bs)
 times-names n [] = refl

@@ -11,7 +11,8 @@ ghost use Rattle.laws.specs.Tests.{all};
 ghost use Rattle.load.specs.Stream.{openIn};
 ghost use Rattle.load.specs.Basic.{Bounded, EachOf};
 ghost use Rattle.load.specs.Disk.{startsKept};
-ghost use Rattle.load.specs.Columns.{rows, DiskColumns, openFrom, openRows, reserveRows, rowsKept};
+ghost use Rattle.lists.specs.Rows.{rows};
+ghost use Rattle.lists.specs.Disk.{DiskColumns, openFrom, openRows, reserveRows, rowsKept};
 
 // Whether the stream is open in round t: rounds s to s+p+n-1.
 pub fn open_in(x: Stream, t: usize) -> bool

@@ -7,9 +7,10 @@ use native.Mathlib.Omega.{arith}
 use borrow.Author.Needs.{needs}
 use lib.ListN.{length, getD, drop}
 use Rattle.limits.specs.Bounds.{maxReserve}
-use Rattle.load.specs.Columns.{rows, openFrom, openRows, reserveRows}
+use Rattle.lists.specs.Rows.{rows, rows-next, rows-end}
+use Rattle.lists.specs.Disk.{openFrom, openRows, reserveRows}
 use Rattle.load.specs.StreamLaws.{cond-most}
-use Rattle.load.proofs.ColumnLaws.{rows-next, rows-end, cond-times}
+use Rattle.load.proofs.ColumnLaws.{cond-times}
 use Rattle.load.proofs.disk.demand_in.Statement.{statement}
 use Rattle.load.proofs.disk.demand_in.Tie as tie
 

@@ -11,7 +11,8 @@ use lib.Seq.{slice, take-length}
 use Rattle.laws.specs.Tests.{all}
 use Rattle.loss.specs.Loss.{lossAt}
 use Rattle.loss.specs.Rising.{maxLoss, loss-bound}
-use Rattle.load.specs.Columns.{rows, openRows, rowsKept}
+use Rattle.lists.specs.Rows.{rows}
+use Rattle.lists.specs.Disk.{openRows, rowsKept}
 use Rattle.load.specs.Lists.{all-no, all-next, all-end}
 use Rattle.load.proofs.ColumnLaws.{kept-leb}
 use Rattle.load.proofs.disk.kept_at_starts.Statement.{statement}

@@ -1,5 +1,5 @@
 -- `load::disk::open_at` meets its contract. Assumes nothing.
-use Rattle.load.specs.Columns.{openFrom}
+use Rattle.lists.specs.Disk.{openFrom}
 use Rattle.load.proofs.disk.open_at.Statement.{statement}
 use Rattle.load.proofs.disk.open_at.Tie as tie
 

@@ -1,4 +1,4 @@
--- `load::cabs::all_clear` meets its contract. The invariant: the answer is that of the rows from i on. The measure is what is
+-- `lists::cabs::all_clear` meets its contract. The invariant: the answer is that of the rows from i on. The measure is what is
 -- left of them. Assumes nothing.
 use mathlib.Core.Path.{_≡_, refl, sym, ap, _∙_}
 use Prim.Native.Nat.{_+_, _-_, _≤_}
@@ -7,10 +7,10 @@ use borrow.Author.Needs.{needs}
 use borrow.Author.Tests.{not-true, not-false}
 use lib.ListN.{length, drop}
 use Rattle.laws.specs.Parts.{tail-part}
-use Rattle.load.specs.Columns.{rows, rowsClear}
-use Rattle.load.proofs.ColumnLaws.{rows-next, rows-end}
-use Rattle.load.proofs.cabs.all_clear.Statement.{statement}
-use Rattle.load.proofs.cabs.all_clear.Tie as tie
+use Rattle.lists.specs.Rows.{rows, rows-next, rows-end}
+use Rattle.lists.specs.Cabs.{rowsClear}
+use Rattle.lists.proofs.cabs.all_clear.Statement.{statement}
+use Rattle.lists.proofs.cabs.all_clear.Tie as tie
 
 abbrev Inv-loop : tie.InvT-loop
 Inv-loop cabs shows ends i₀ i = (i ≤ length cabs)

@@ -1,4 +1,4 @@
--- `load::cabs::clear_of` meets its contract. The invariant: the answer is that of the rows from i on. The measure is what is
+-- `lists::cabs::clear_of` meets its contract. The invariant: the answer is that of the rows from i on. The measure is what is
 -- left of them. Assumes nothing.
 use mathlib.Core.Path.{_≡_, refl, sym, ap, _∙_}
 use mathlib.Core.Bool.{Bool, not}
@@ -8,10 +8,10 @@ use borrow.Author.Needs.{needs}
 use borrow.Author.Tests.{not-true, not-false}
 use lib.ListN.{length, drop}
 use Rattle.laws.specs.Tests.{all}
-use Rattle.load.specs.Columns.{Row, rows, rowOf, rowsClash}
-use Rattle.load.proofs.ColumnLaws.{rows-next, rows-end}
-use Rattle.load.proofs.cabs.clear_of.Statement.{statement}
-use Rattle.load.proofs.cabs.clear_of.Tie as tie
+use Rattle.lists.specs.Rows.{Row, rows, rows-next, rows-end}
+use Rattle.lists.specs.Cabs.{rowOf, rowsClash}
+use Rattle.lists.proofs.cabs.clear_of.Statement.{statement}
+use Rattle.lists.proofs.cabs.clear_of.Tie as tie
 
 abbrev Inv-loop : tie.InvT-loop
 Inv-loop x cabs shows ends i₀ i = (i ≤ length cabs)

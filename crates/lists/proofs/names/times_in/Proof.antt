@@ -1,4 +1,4 @@
--- `load::names::times_in` meets its contract. The invariant: the names found so far and those from i on are the whole. The
+-- `lists::names::times_in` meets its contract. The invariant: the names found so far and those from i on are the whole. The
 -- measure is what is left of the names. Assumes nothing.
 use mathlib.Core.Path.{_≡_}
 use Prim.Native.Nat.{_+_, _-_, _≤_}
@@ -7,11 +7,10 @@ use borrow.Author.Needs.{needs}
 use lib.Dec.{eqb}
 use lib.ListN.{length, getD, drop}
 use lib.Seq.{drop-length}
-use Rattle.load.specs.Columns.{timesIn}
-use Rattle.load.specs.StreamLaws.{cond-most}
-use Rattle.load.proofs.ColumnLaws.{times-next}
-use Rattle.load.proofs.names.times_in.Statement.{statement}
-use Rattle.load.proofs.names.times_in.Tie as tie
+use Rattle.lists.specs.Names.{timesIn}
+use Rattle.lists.proofs.NameLaws.{one-most, times-next}
+use Rattle.lists.proofs.names.times_in.Statement.{statement}
+use Rattle.lists.proofs.names.times_in.Tie as tie
 
 abbrev Inv-loop : tie.InvT-loop
 Inv-loop names name found₀ i₀ found i = (i ≤ length names)
@@ -38,7 +37,7 @@ add-found c =
     let a = c .before .before .before .before .before .args in
     let l = c .before .before .before .loop in
     let ns = a .names .now in
-    let one = cond-most (eqb (getD ns (l .i) 0) (a .name)) 1 1 (omega arith) in
+    let one = one-most (eqb (getD ns (l .i) 0) (a .name)) in
     omega (arith, c .same .ensures)
 
 add-i : tie.Need-add-i Inv-loop μ-loop
@@ -52,7 +51,7 @@ loop-again c =
     let a = c .before .before .before .before .before .args in
     let l = c .before .before .before .loop in
     let ns = a .names .now in
-    let one = cond-most (eqb (getD ns (l .i) 0) (a .name)) 1 1 (omega arith) in
+    let one = one-most (eqb (getD ns (l .i) 0) (a .name)) in
     let next = times-next (a .name) ns (l .i) (omega arith) in
     (omega arith, omega (arith, c .same .ensures), omega (arith, c .same .ensures))
 

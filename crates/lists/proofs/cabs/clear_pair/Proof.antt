@@ -1,9 +1,9 @@
--- `load::cabs::clear_pair` meets its contract. Assumes nothing.
+-- `lists::cabs::clear_pair` meets its contract. Assumes nothing.
 use mathlib.Core.Path.{sym}
-use Rattle.load.specs.Columns.{rowOf}
-use Rattle.load.proofs.ColumnLaws.{clear-apart, clear-after, clear-before}
-use Rattle.load.proofs.cabs.clear_pair.Statement.{statement}
-use Rattle.load.proofs.cabs.clear_pair.Tie as tie
+use Rattle.lists.specs.Cabs.{rowOf}
+use Rattle.lists.proofs.CabLaws.{clear-apart, clear-after, clear-before}
+use Rattle.lists.proofs.cabs.clear_pair.Statement.{statement}
+use Rattle.lists.proofs.cabs.clear_pair.Tie as tie
 
 returns : tie.Need-returns
 returns c =

@@ -1,7 +1,7 @@
--- `load::names::same` meets its contract. Assumes nothing.
+-- `lists::names::same` meets its contract. Assumes nothing.
 use borrow.Author.Tests.{eq-eqb, ne-eqb}
-use Rattle.load.proofs.names.same.Statement.{statement}
-use Rattle.load.proofs.names.same.Tie as tie
+use Rattle.lists.proofs.names.same.Statement.{statement}
+use Rattle.lists.proofs.names.same.Tie as tie
 
 returns : tie.Need-returns
 returns c = rw (eq-eqb _ _ (c .if1 .taken))
