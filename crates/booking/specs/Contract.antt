@@ -2,8 +2,10 @@
 use mathlib.Core.Path.{_≡_}
 use mathlib.Core.List.{List, _++_}
 use Prim.Native.Nat.{ℕ}
-use lib.ListN.{take}
-use Rattle.laws.specs.Questions.{Question}
+use lib.ListN.{length, take}
+use Rattle.laws.specs.Questions.{Question, refusal}
+use Rattle.films.specs.Catalogue.{catalogueOf}
+use Rattle.films.specs.declared.types.Catalogue.{Catalogue}
 use Rattle.model.specs.Day.{Setting}
 use Rattle.model.specs.Questions.{bookOwn}
 use Rattle.model.specs.Calls as Calls
@@ -12,8 +14,11 @@ use Rattle.model.specs.declared.Booking.{Booking}
 use Rattle.model.specs.declared.Request.{Request}
 use Rattle.model.specs.declared.Day.{Day}
 use Rattle.model.specs.declared.Answer.{Answer}
+use Rattle.load.specs.Streams.{streamsOf}
+use Rattle.load.specs.declared.stream.Stream.{Stream}
 use Rattle.questions.specs.Given.{settingAt}
 use Rattle.questions.specs.Numbers.{standingAsks}
+use Rattle.questions.specs.SheetOf.{SheetKept}
 
 pub record Leaves (S : Setting) (out : Calls.Outcome) (a : Answer) (d : Day) (bs : List Booking) (o r h : List ℕ) : Type 0 where
   pub answer : a ≡ out .answer
@@ -28,3 +33,10 @@ abbrev pub bookAsks : List ℕ → Day → List Booking → ℕ → Request → 
 bookAsks f day rows places q opens reserves helds =
     standingAsks f day rows places opens reserves helds
     ++ bookOwn (settingAt f day) (take (day .count) rows) (day .count) places (day .now) q
+
+-- what is asked where the questions but 22 have passed, xs are the standing bookings' streams, and the three lists their sheet
+pub record Placing (f : List ℕ) (c : Catalogue) (day : Day) (rows : List Booking) (places : ℕ) (q : Request) (xs : List Stream) (o r h : List ℕ) : Type 0 where
+  pub catalogue : c ≡ catalogueOf f
+  pub passed : refusal (bookAsks f day rows places q (length o) (length r) (length h)) ≡ 0
+  pub streams : xs ≡ streamsOf c (day .count) rows
+  pub sheet : SheetKept (settingAt f day) (take (day .count) rows) o r h

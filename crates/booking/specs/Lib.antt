@@ -3,3 +3,4 @@ pub mod Contract
 pub mod Own
 pub mod Place
 pub mod Placed
+pub mod Placing

@@ -41,10 +41,10 @@ use Rattle.questions.specs.Numbers.{roundsHold, dayHolds, limitsHold, sheetHold
 use Rattle.questions.specs.Standing.{Standing, standing-held, standing-numbered, standing-after}
 use Rattle.questions.specs.Tied.{Tied, AllTied, tied-rounds}
 use Rattle.questions.specs.ListSound.{all-tied-taken, length-streams, sound-playable}
-use Rattle.questions.specs.SheetOf.{SheetOf, laid-sheet}
+use Rattle.questions.specs.SheetOf.{SheetOf, SheetKept, laid-sheet, sheet-laid}
 use Rattle.questions.specs.Start.{first-query}
 use Rattle.booking.specs.Contract.{Leaves, bookAsks}
-use Rattle.booking.specs.Own.{requestOf, request-tied}
+use Rattle.booking.specs.Own.{ownAsks, own-same, requestOf, request-tied}
 use Rattle.booking.specs.Place.{film-small, laid-window}
 
 -- the code's questions are the model's
@@ -52,6 +52,14 @@ pub asks-same : (f : List ℕ) (day : Day) (rows : List Booking) (places : ℕ) 
     → bookQuestions (settingAt f day) (stateOf day rows places o r h) q ≡ bookAsks f day rows places q (length o) (length r) (length h)
 unfolding bookQuestions dayInRange roundsInRange limitsInRange sheetLong sound standingAsks dayHolds roundsHold limitsHold sheetHolds soundHolds
 asks-same f day rows places q o r h = refl
+
+-- the number of booking's own questions is that of all of them
+pub own-decides : (f : List ℕ) (day : Day) (rows : List Booking) (places : ℕ) (q : Request) (o r h n : ℕ)
+    → refusal (standingAsks f day rows places o r h) ≡ 0 → n ≡ refusal (ownAsks f day rows places q)
+    → n ≡ refusal (bookAsks f day rows places q o r h)
+own-decides f day rows places q o r h n passed e =
+    let s = standing-held f day rows places o r h passed in
+    e ∙ ap refusal (sym (own-same f day (s .accepted) q rows places)) ∙ sym (standing-after f day rows places o r h _ passed)
 
 -- a number before 22: nothing changes
 pub leaves-refused : (f : List ℕ) (day : Day) (rows : List Booking) (places : ℕ) (q : Request) (o r h : List ℕ) (n : ℕ)
@@ -139,6 +147,10 @@ module _ (f : List ℕ) (day : Day) (rows : List Booking) (places : ℕ) (q : Re
     pub lays : Lays f xs (day .count) T o₀ r₀ h₀
     lays = record { few = stands .few; streams = good .0; within = good .1; places = sheet-places }
 
+    -- a sheet that is theirs already is theirs by the streams
+    pub kept-laid : SheetKept S bs o₀ r₀ h₀ → Laid f (take (day .count) xs) T o₀ r₀ h₀ o₀ r₀ h₀
+    kept-laid = sheet-laid S f bs (take (day .count) xs) tied o₀ r₀ h₀ o₀ r₀ h₀
+
     -- ---- the search over it
 
     module _ (o r h : List ℕ) (laid : Laid f (take (day .count) xs) T o₀ r₀ h₀ o r h) where
@@ -180,7 +192,7 @@ module _ (f : List ℕ) (day : Day) (rows : List Booking) (places : ℕ) (q : Re
           laid-window f (take (day .count) xs) T o₀ r₀ h₀ o r h laid (omega (arith, count-taken, asks .few)) good-taken sheet-places (stands .rounds) y
           (profileOf f y) (day .disk) (day .memory) (q .last) last-within
 
-      sheet-of : SheetOf S bs o₀ r₀ h₀ o r h
+      pub sheet-of : SheetOf S bs o₀ r₀ h₀ o r h
       sheet-of = laid-sheet S f bs (take (day .count) xs) tied o₀ r₀ h₀ o r h laid
 
       ties : (s : ℕ) → Tied S f (recordOf q s) (startAt s y)

@@ -8,6 +8,7 @@ use films::catalogue::catalogue;
 use films::types::Catalogue;
 use limits::bounds::MAX_BOOKINGS;
 use limits::refusals::NO_START;
+use load::stream::Stream;
 use load::stream::streams_of;
 use model::Answer;
 use model::Booking;
@@ -30,7 +31,8 @@ ghost use Rattle.model.specs.FirstFit.{AnswersFirst};
 ghost use Rattle.model.specs.Fit.{FitsAt};
 ghost use Rattle.questions.specs.Given.{settingAt};
 ghost use Rattle.questions.specs.Numbers.{standingAsks};
-ghost use Rattle.booking.specs.Contract.{Leaves, bookAsks};
+ghost use Rattle.questions.specs.SheetOf.{SheetKept};
+ghost use Rattle.booking.specs.Contract.{Leaves, Placing, bookAsks};
 
 // What a booking gives: the answer, the day and the list's first 256 places.
 pub struct Outcome {
@@ -39,26 +41,25 @@ pub struct Outcome {
     pub rows: [Booking; MAX_BOOKINGS],
 }
 
-// Places a request whose questions but 22 have passed: the sheet of the standing bookings is laid down, and the first start
-// of the window that fits gets a record and is added to the sheet.
-fn place(
+// Places a request whose questions but 22 have passed on the sheet of the standing bookings, whose streams are xs: the first
+// start of the window that fits gets a record and is added to the sheet.
+fn place_on(
     file: &[u8],
     c: Catalogue,
     day: Day,
     rows: [Booking; MAX_BOOKINGS],
     places: u64,
     q: Request,
+    xs: [Stream; MAX_BOOKINGS],
     opens: &mut [u64],
     reserves: &mut [u64],
     helds: &mut [u64],
 ) -> Outcome
-    requires { ⌜ (c ≡ catalogueOf (now file)) × (refusal (bookAsks (now file) day rows places q (length (now opens)) (length (now reserves)) (length (now helds))) ≡ 0) ⌝ }
+    requires { ⌜ Placing (now file) c day rows places q xs (now opens) (now reserves) (now helds) ⌝ }
     ensures { λ r. ⌜ Leaves (settingAt (now (file .entry)) day) (bookCall (settingAt (now (file .entry)) day) (stateOf day rows places (now (opens .entry)) (now (reserves .entry)) (now (helds .entry))) q) (r .answer) (r .day) (r .rows) (now (opens .exit)) (now (reserves .exit)) (now (helds .exit)) ⌝ }
 {
     let count = day.count as usize;
     let rounds = day.rounds as usize;
-    let xs = streams_of(c, rows, count);
-    lay_sheet(file, xs, count, rounds, opens, reserves, helds);
     let y = requested(c, q);
     let found = first_start(
         file,
@@ -96,6 +97,28 @@ fn place(
     }
 }
 
+// Places a request whose questions but 22 have passed: the sheet of the standing bookings is laid down, whatever stood there,
+// and the request is placed on it.
+fn place(
+    file: &[u8],
+    c: Catalogue,
+    day: Day,
+    rows: [Booking; MAX_BOOKINGS],
+    places: u64,
+    q: Request,
+    opens: &mut [u64],
+    reserves: &mut [u64],
+    helds: &mut [u64],
+) -> Outcome
+    requires { ⌜ (c ≡ catalogueOf (now file)) × (refusal (bookAsks (now file) day rows places q (length (now opens)) (length (now reserves)) (length (now helds))) ≡ 0) ⌝ }
+    ensures { λ r. ⌜ Leaves (settingAt (now (file .entry)) day) (bookCall (settingAt (now (file .entry)) day) (stateOf day rows places (now (opens .entry)) (now (reserves .entry)) (now (helds .entry))) q) (r .answer) (r .day) (r .rows) (now (opens .exit)) (now (reserves .exit)) (now (helds .exit)) ⌝ }
+{
+    let count = day.count as usize;
+    let xs = streams_of(c, rows, count);
+    lay_sheet(file, xs, count, day.rounds as usize, opens, reserves, helds);
+    place_on(file, c, day, rows, places, q, xs, opens, reserves, helds)
+}
+
 // Booking where the file's questions, 14, 15, 11 and 16 have passed; c is the file's catalogue.
 pub fn book_standing(
     file: &[u8],
@@ -120,6 +143,33 @@ pub fn book_standing(
         };
     }
     place(file, c, day, rows, places, q, opens, reserves, helds)
+}
+
+// `book_standing` where the sheet is that of the standing bookings already, so that it is not laid down again.
+pub fn book_kept(
+    file: &[u8],
+    c: Catalogue,
+    day: Day,
+    rows: [Booking; MAX_BOOKINGS],
+    places: u64,
+    q: Request,
+    opens: &mut [u64],
+    reserves: &mut [u64],
+    helds: &mut [u64],
+) -> Outcome
+    requires { ⌜ (c ≡ catalogueOf (now file)) × (refusal (standingAsks (now file) day rows places (length (now opens)) (length (now reserves)) (length (now helds))) ≡ 0) × SheetKept (settingAt (now file) day) (take (day .count) rows) (now opens) (now reserves) (now helds) ⌝ }
+    ensures { λ r. ⌜ Leaves (settingAt (now (file .entry)) day) (bookCall (settingAt (now (file .entry)) day) (stateOf day rows places (now (opens .entry)) (now (reserves .entry)) (now (helds .entry))) q) (r .answer) (r .day) (r .rows) (now (opens .exit)) (now (reserves .exit)) (now (helds .exit)) ⌝ }
+{
+    let refused = own_number(file, c, day, rows, places, q);
+    if refused != 0 {
+        return Outcome {
+            answer: Answer::Refused(refused),
+            day,
+            rows,
+        };
+    }
+    let xs = streams_of(c, rows, day.count as usize);
+    place_on(file, c, day, rows, places, q, xs, opens, reserves, helds)
 }
 
 // Booking: the answer, the day, every record place and every place of the sheet afterwards are the model's, for every input.

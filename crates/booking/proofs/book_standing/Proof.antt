@@ -1,29 +1,12 @@
 -- `booking::book_standing` meets its contract: booking's own questions decide, and where none says no the request is placed. Assumes
 -- nothing.
-use mathlib.Core.Path.{_≡_, sym, ap, _∙_}
-use mathlib.Core.List.{List}
-use Prim.Native.Nat.{ℕ}
+use mathlib.Core.Path.{sym, _∙_}
 use lib.ListN.{length}
 use borrow.Author.Needs.{needs}
-use Rattle.laws.specs.Questions.{refusal}
-use Rattle.model.specs.declared.Booking.{Booking}
-use Rattle.model.specs.declared.Request.{Request}
-use Rattle.model.specs.declared.Day.{Day}
-use Rattle.questions.specs.Numbers.{standingAsks}
-use Rattle.booking.specs.Contract.{bookAsks}
-use Rattle.booking.specs.Own.{ownAsks, own-same}
-use Rattle.questions.specs.Standing.{standing-held, standing-after}
-use Rattle.booking.specs.Placed.{leaves-refused}
+use Rattle.questions.specs.Standing.{standing-held}
+use Rattle.booking.specs.Placed.{own-decides, leaves-refused}
 use Rattle.booking.proofs.book_standing.Statement.{statement}
 use Rattle.booking.proofs.book_standing.Tie as tie
-
--- the number of booking's own questions is that of all of them
-own-decides : (f : List ℕ) (day : Day) (rows : List Booking) (places : ℕ) (q : Request) (o r h n : ℕ)
-    → refusal (standingAsks f day rows places o r h) ≡ 0 → n ≡ refusal (ownAsks f day rows places q)
-    → n ≡ refusal (bookAsks f day rows places q o r h)
-own-decides f day rows places q o r h n passed e =
-    let s = standing-held f day rows places o r h passed in
-    e ∙ ap refusal (sym (own-same f day (s .accepted) q rows places)) ∙ sym (standing-after f day rows places o r h _ passed)
 
 own-number-requires : tie.Need-own-number-requires
 own-number-requires c κs =
