@@ -5,3 +5,6 @@ pub mod RemovalLaws
 pub mod Standing
 pub mod StandingLaws
 pub mod Laws
+pub mod Taking
+pub mod TakingLaws
+pub mod KeptLaws

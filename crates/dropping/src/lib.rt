@@ -1,25 +1,29 @@
 // Dropping a booking.
 pub mod removal;
 pub mod standing;
+mod taking;
 
 use crate::removal::close_gap;
 use crate::removal::position;
 use crate::standing::lay_standing;
+use crate::taking::take_stream;
 use films::catalogue::catalogue;
 use films::types::Catalogue;
 use limits::bounds::MAX_BOOKINGS;
 use limits::refusals::NO_NAME;
+use load::stream::stream_of;
 use model::Answer;
 use model::Booking;
 use model::Day;
 use questions::standing::standing_number;
 ghost use mathlib.Core.Path.{_≡_};
-ghost use lib.ListN.{length};
+ghost use lib.ListN.{length, take};
 ghost use Rattle.laws.specs.Questions.{refusal};
 ghost use Rattle.films.specs.Catalogue.{catalogueOf};
 ghost use Rattle.model.specs.Code.{stateOf};
 ghost use Rattle.questions.specs.Given.{settingAt};
 ghost use Rattle.questions.specs.Numbers.{standingAsks};
+ghost use Rattle.questions.specs.SheetOf.{SheetKept};
 ghost use Rattle.dropping.specs.Contract.{Drops};
 
 // What a drop answers, and the day and the records after it.
@@ -64,6 +68,48 @@ pub fn drop_standing(
             now: day.now,
             count: day.count - 1,
         },
+        rows: rest,
+    }
+}
+
+// `drop_standing` where the sheet is that of the standing bookings already, so that only the dropped one's stream is taken out.
+pub fn drop_kept(
+    file: &[u8],
+    c: Catalogue,
+    day: Day,
+    rows: [Booking; MAX_BOOKINGS],
+    places: u64,
+    name: u32,
+    opens: &mut [u64],
+    reserves: &mut [u64],
+    helds: &mut [u64],
+) -> DropOutcome
+    requires { ⌜ (c ≡ catalogueOf (now file)) × (refusal (standingAsks (now file) day rows places (length (now opens)) (length (now reserves)) (length (now helds))) ≡ 0) × SheetKept (settingAt (now file) day) (take (day .count) rows) (now opens) (now reserves) (now helds) ⌝ }
+    ensures { λ r. ⌜ Drops (settingAt (now (file .entry)) day) (stateOf day rows places (now (opens .entry)) (now (reserves .entry)) (now (helds .entry))) name r (now (opens .exit)) (now (reserves .exit)) (now (helds .exit)) ⌝ }
+{
+    let count = day.count as usize;
+    let i = position(rows, count, name);
+    if i == count {
+        return DropOutcome {
+            answer: Answer::Refused(NO_NAME),
+            day,
+            rows,
+        };
+    }
+    let b = rows[i];
+    let x = stream_of(c, b);
+    take_stream(file, x, opens, reserves, helds);
+    let rest = close_gap(rows, count, i);
+    let next = Day {
+        rounds: day.rounds,
+        disk: day.disk,
+        memory: day.memory,
+        now: day.now,
+        count: day.count - 1,
+    };
+    DropOutcome {
+        answer: Answer::Dropped,
+        day: next,
         rows: rest,
     }
 }
