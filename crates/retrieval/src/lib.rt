@@ -166,7 +166,7 @@ fn first_shown(p: usize, a: usize, e: usize) -> usize
     if a < p { p } else { a }
 }
 
-// `add_held` of the rounds from m on, which show.
+// `add_held` of the rounds from m on, which show. One number counts the turns and the places of both lists.
 fn add_shown(
     part: &mut [u64],
     file: &[u8],
@@ -182,13 +182,15 @@ fn add_shown(
     requires { ⌜ (Adds (now part) (now file) at n p b a e c) × (m ≡ max a (min p e)) ⌝ }
     ensures { λ r. ⌜ (now (part .exit) ≡ plusFrom (m - a) (now (part .entry)) (heldIn (now (file .entry)) at n p b a e)) × (r ≡ carry b (drop m (sendsAt (now (file .entry)) at n p))) ⌝ }
 {
+    let place = m - a;
+    let offset = at + 4 * (less(m as u64, p as u64) as usize);
     let mut left = c;
-    let mut k = e;
-    while m < k {
-        k -= 1;
-        let x = size_at(file, at + 4 * (k - p));
+    let mut j = e - m;
+    while 0 < j {
+        j -= 1;
+        let x = size_at(file, offset + 4 * j);
         let h = x + left;
-        part[k - a] = part[k - a] + h;
+        part[place + j] = part[place + j] + h;
         left = carry_before(x, left, b);
     }
     left

@@ -1,8 +1,8 @@
--- `retrieval::add_shown` meets its contract. The invariant: what the film holds from its round k on has been added, and left
--- is the carry of its rounds from k on. The measure is k. Assumes nothing.
+-- `retrieval::add_shown` meets its contract. The invariant: what the film holds from its round m + j on has been added, and left
+-- is the carry of its rounds from there on. The measure is j. Assumes nothing.
 use mathlib.Core.Path.{_≡_, sym, _∙_}
 use mathlib.Core.List.{List}
-use Prim.Native.Nat.{ℕ, _≤_, _-_, _+_}
+use Prim.Native.Nat.{ℕ, _≤_, _<_, _-_, _+_, _*_}
 use native.Mathlib.Omega.{arith}
 use borrow.Author.Needs.{needs}
 use lib.ListN.{length, drop, getD, length-set}
@@ -13,38 +13,67 @@ use Rattle.retrieval.specs.SheetLaws.{plusFrom, ontoFrom-none, turn-read
 use Rattle.retrieval.proofs.add_shown.Statement.{statement}
 use Rattle.retrieval.proofs.add_shown.Tie as tie
 
-record Added (part₀ file : List ℕ) (at n p b a m e : ℕ) (part : List ℕ) (left k : ℕ) : Type 0 where
-  from : m ≤ k
-  within : k ≤ e
-  carried : left ≡ carry b (drop k (sendsAt file at n p))
-  added : part ≡ plusFrom (k - a) part₀ (heldIn file at n p b a e)
+record Added (part₀ file : List ℕ) (at n p b a m e : ℕ) (part : List ℕ) (left j : ℕ) : Type 0 where
+  within : m + j ≤ e
+  carried : left ≡ carry b (drop (m + j) (sendsAt file at n p))
+  added : part ≡ plusFrom (m + j - a) part₀ (heldIn file at n p b a e)
   same : length part ≡ length part₀
 
+-- the place of the round before m + j, where the list begins with round a
+place-before : (a m j : ℕ) → a ≤ m → 0 < j → m - a + (j - 1) ≡ (m + j - a) - 1
+place-before a m j h k = omega arith
+
+round-before : (m j : ℕ) → 0 < j → m + (j - 1) ≡ m + j - 1
+round-before m j k = omega arith
+
+swapped : (a k : ℕ) → k - 1 - a ≡ (k - a) - 1
+swapped a k = omega arith
+
+still-within : (m j e : ℕ) → m + j ≤ e → m + (j - 1) ≤ e
+still-within m j e h = omega arith
+
+some-place : (a m j : ℕ) → a ≤ m → 0 < j → 0 < m + j - a
+some-place a m j h k = omega arith
+
 abbrev Inv-loop : tie.InvT-loop
-Inv-loop part₀ file at n p b a m e c left₀ k₀ part left k = Added part₀ file at n p b a m e part left k
+Inv-loop part₀ file at n p b a m e c place offset left₀ j₀ part left j =
+    Added part₀ file at n p b a m e part left j
 
 abbrev μ-loop : tie.MeasureT-loop
-μ-loop part₀ file at n p b a m e c left₀ k₀ part left k = k
+μ-loop part₀ file at n p b a m e c place offset left₀ j₀ part left j = j
+
+sub-place : tie.Need-sub-place Inv-loop μ-loop
+sub-place c = search needs
+
+less-requires : tie.Need-less-requires Inv-loop μ-loop
+less-requires c κs = search needs
+
+mul-offset : tie.Need-mul-offset Inv-loop μ-loop
+mul-offset c = search needs
+
+add-offset : tie.Need-add-offset Inv-loop μ-loop
+add-offset c = search needs
+
+sub-j : tie.Need-sub-j Inv-loop μ-loop
+sub-j c = search needs
 
 loop-holds : tie.Need-loop-holds Inv-loop μ-loop
 loop-holds c =
-    let start = c .before .before in
+    let start = c .before .before .before in
     let a = start .args in
+    let end : a .m + (a .e - a .m) ≡ a .e = omega arith in
     record {
-      from = omega arith;
       within = omega arith;
-      carried = start .pre .0 .carried;
+      carried = rw end (start .pre .0 .carried);
       added =
-          sym (ontoFrom-none (a .e - a .a) (λ x h. x + h) (a .part .now) (heldIn (a .file .now) (a .at) (a .n) (a .p) (a .b) (a .a) (a .e))
-          (omega (arith, length-heldIn (a .file .now) (a .at) (a .n) (a .p) (a .b) (a .a) (a .e) (omega arith))));
+          rw end
+          (sym (ontoFrom-none (a .e - a .a) (λ x h. x + h) (a .part .now) (heldIn (a .file .now) (a .at) (a .n) (a .p) (a .b) (a .a) (a .e))
+          (omega (arith, length-heldIn (a .file .now) (a .at) (a .n) (a .p) (a .b) (a .a) (a .e) (omega arith)))));
       same = omega arith;
     }
 
-sub-k : tie.Need-sub-k Inv-loop μ-loop
-sub-k c = search needs
-
-sub-size-at : tie.Need-sub-size-at Inv-loop μ-loop
-sub-size-at c = search needs
+sub-j-2 : tie.Need-sub-j-2 Inv-loop μ-loop
+sub-j-2 c = search needs
 
 mul-size-at : tie.Need-mul-size-at Inv-loop μ-loop
 mul-size-at c = search needs
@@ -57,17 +86,21 @@ size-at-requires c κs = search needs
 
 add-h : tie.Need-add-h Inv-loop μ-loop
 add-h c =
-    let start = c .before .before .before .before .before in
+    let turn = c .before in
+    let l = turn .before .loop in
+    let start = turn .before .before .before .before .before in
     let a = start .args in
-    let l = c .before .before .loop in
-    let x = c .size-at in
+    let k = a .m + l .j in
     let s = a .file .now in
-    let ex = x .ensures ∙ sends-shown s (a .at) (a .n) (a .p) (l .k - 1) (omega arith) (omega arith) in
-    let held = window-held s (a .at) (a .n) (a .p) (a .b) (a .a) (a .e) (l .k) (l .left) (x .result) (omega arith) (omega arith) (omega arith) (l .inv .carried) ex in
-    omega (arith, start .pre .0 .room ((l .k - a .a) - 1))
+    let offset : a .at + 4 * turn .before .before .less .result + 4 * (l .j - 1) ≡ a .at + 4 * ((k - 1) - a .p) =
+    omega (arith, turn .before .before .less .ensures) in
+    let x = c .size-at in
+    let ex = rw offset at (x .ensures) ∙ sends-shown s (a .at) (a .n) (a .p) (k - 1) (omega arith) (omega arith) in
+    let held = window-held s (a .at) (a .n) (a .p) (a .b) (a .a) (a .e) k (l .left) (x .result) (omega arith) (omega arith) (omega arith) (l .inv .carried) ex in
+    omega (arith, start .pre .0 .room ((k - a .a) - 1))
 
-sub-part : tie.Need-sub-part Inv-loop μ-loop
-sub-part c = search needs
+add-part : tie.Need-add-part Inv-loop μ-loop
+add-part c = search needs
 
 mul-part : tie.Need-mul-part Inv-loop μ-loop
 mul-part c = search needs
@@ -75,22 +108,27 @@ mul-part c = search needs
 slice-read-part : tie.Need-slice-read-part Inv-loop μ-loop
 slice-read-part c = search needs
 
-add-part : tie.Need-add-part Inv-loop μ-loop
-add-part c =
-    let start = c .before .before .before .before .before .before in
+add-part-2 : tie.Need-add-part-2 Inv-loop μ-loop
+add-part-2 c =
+    let turn = c .before .before in
+    let l = turn .before .loop in
+    let start = turn .before .before .before .before .before in
     let a = start .args in
-    let l = c .before .before .before .loop in
-    let x = c .before .size-at in
+    let k = a .m + l .j in
     let s = a .file .now in
-    let ex = x .ensures ∙ sends-shown s (a .at) (a .n) (a .p) (l .k - 1) (omega arith) (omega arith) in
-    let held = window-held s (a .at) (a .n) (a .p) (a .b) (a .a) (a .e) (l .k) (l .left) (x .result) (omega arith) (omega arith) (omega arith) (l .inv .carried) ex in
+    let offset : a .at + 4 * turn .before .before .less .result + 4 * (l .j - 1) ≡ a .at + 4 * ((k - 1) - a .p) =
+    omega (arith, turn .before .before .less .ensures) in
+    let x = c .before .size-at in
+    let ex = rw offset at (x .ensures) ∙ sends-shown s (a .at) (a .n) (a .p) (k - 1) (omega arith) (omega arith) in
+    let held = window-held s (a .at) (a .n) (a .p) (a .b) (a .a) (a .e) k (l .left) (x .result) (omega arith) (omega arith) (omega arith) (l .inv .carried) ex in
     let hs = heldIn s (a .at) (a .n) (a .p) (a .b) (a .a) (a .e) in
-    let found = turn-read (l .k - a .a) (λ x h. x + h) (a .part .now) hs (l .part) (omega arith) (l .inv .added) in
-    let place : (l .k - 1) - a .a ≡ (l .k - a .a) - 1 = omega arith in
-    rw place (omega (arith, start .pre .0 .room ((l .k - a .a) - 1)))
+    let from : a .a ≤ a .m = omega arith in
+    let found = turn-read (k - a .a) (λ x h. x + h) (a .part .now) hs (l .part) (some-place (a .a) (a .m) (l .j) from (omega arith)) (l .inv .added) in
+    let place = place-before (a .a) (a .m) (l .j) from (omega arith) in
+    rw place (omega (arith, start .pre .0 .room ((k - a .a) - 1)))
 
-sub-part-2 : tie.Need-sub-part-2 Inv-loop μ-loop
-sub-part-2 c = search needs
+add-part-3 : tie.Need-add-part-3 Inv-loop μ-loop
+add-part-3 c = search needs
 
 mul-part-2 : tie.Need-mul-part-2 Inv-loop μ-loop
 mul-part-2 c = search needs
@@ -100,42 +138,54 @@ slice-write-part c = search needs
 
 carry-before-requires : tie.Need-carry-before-requires Inv-loop μ-loop
 carry-before-requires c κs =
-    let start = c .before .before .before .before .before .before in
+    let turn = c .before .before in
+    let l = turn .before .loop in
+    let start = turn .before .before .before .before .before in
     let a = start .args in
-    let l = c .before .before .before .loop in
-    let x = c .before .size-at in
+    let k = a .m + l .j in
     let s = a .file .now in
-    let ex = x .ensures ∙ sends-shown s (a .at) (a .n) (a .p) (l .k - 1) (omega arith) (omega arith) in
-    let held = window-held s (a .at) (a .n) (a .p) (a .b) (a .a) (a .e) (l .k) (l .left) (x .result) (omega arith) (omega arith) (omega arith) (l .inv .carried) ex in
-    (omega (arith, start .pre .0 .room ((l .k - a .a) - 1)), omega arith)
+    let offset : a .at + 4 * turn .before .before .less .result + 4 * (l .j - 1) ≡ a .at + 4 * ((k - 1) - a .p) =
+    omega (arith, turn .before .before .less .ensures) in
+    let x = c .before .size-at in
+    let ex = rw offset at (x .ensures) ∙ sends-shown s (a .at) (a .n) (a .p) (k - 1) (omega arith) (omega arith) in
+    let held = window-held s (a .at) (a .n) (a .p) (a .b) (a .a) (a .e) k (l .left) (x .result) (omega arith) (omega arith) (omega arith) (l .inv .carried) ex in
+    (omega (arith, start .pre .0 .room ((k - a .a) - 1)), omega arith)
 
 loop-less : tie.Need-loop-less Inv-loop μ-loop
 loop-less c = search needs
 
 loop-again : tie.Need-loop-again Inv-loop μ-loop
 loop-again c =
-    let start = c .before .before .before .before .before .before .before in
+    let turn = c .before .before .before in
+    let l = turn .before .loop in
+    let start = turn .before .before .before .before .before in
     let a = start .args in
-    let l = c .before .before .before .before .loop in
-    let x = c .before .before .size-at in
+    let k = a .m + l .j in
     let s = a .file .now in
-    let ex = x .ensures ∙ sends-shown s (a .at) (a .n) (a .p) (l .k - 1) (omega arith) (omega arith) in
-    let held = window-held s (a .at) (a .n) (a .p) (a .b) (a .a) (a .e) (l .k) (l .left) (x .result) (omega arith) (omega arith) (omega arith) (l .inv .carried) ex in
-    let xs = sendsAt s (a .at) (a .n) (a .p) in
+    let some : 0 < k = omega arith in
+    let long : k ≤ length (sendsAt s (a .at) (a .n) (a .p)) = omega (arith, length-sendsAt s (a .at) (a .n) (a .p)) in
+    let offset : a .at + 4 * turn .before .before .less .result + 4 * (l .j - 1) ≡ a .at + 4 * ((k - 1) - a .p) =
+    omega (arith, turn .before .before .less .ensures) in
+    let x = c .before .before .size-at in
+    let ex = rw offset at (x .ensures) ∙ sends-shown s (a .at) (a .n) (a .p) (k - 1) (omega arith) (omega arith) in
+    let held = window-held s (a .at) (a .n) (a .p) (a .b) (a .a) (a .e) k (l .left) (x .result) (omega arith) (omega arith) (omega arith) (l .inv .carried) ex in
     let hs = heldIn s (a .at) (a .n) (a .p) (a .b) (a .a) (a .e) in
-    let found = turn-read (l .k - a .a) (λ x h. x + h) (a .part .now) hs (l .part) (omega arith) (l .inv .added) in
-    let place : (l .k - 1) - a .a ≡ (l .k - a .a) - 1 = omega arith in
+    let from : a .a ≤ a .m = omega arith in
+    let found = turn-read (k - a .a) (λ x h. x + h) (a .part .now) hs (l .part) (some-place (a .a) (a .m) (l .j) from (omega arith)) (l .inv .added) in
+    let place = place-before (a .a) (a .m) (l .j) from (omega arith) in
+    let before = round-before (a .m) (l .j) (omega arith) in
+    let left = swapped (a .a) k in
     record {
-      from = omega arith;
-      within = omega arith;
+      within = still-within (a .m) (l .j) (a .e) (l .inv .within);
       carried =
-          c .carry-before .ensures
-          ∙ turn-carry (a .b) (l .k) (l .left) (x .result) xs (omega arith) (omega (arith, length-sendsAt s (a .at) (a .n) (a .p))) (l .inv .carried) ex;
+          rw before
+          (c .carry-before .ensures
+          ∙ turn-carry (a .b) k (l .left) (x .result) (sendsAt s (a .at) (a .n) (a .p)) some long (l .inv .carried) ex);
       added =
-          rw place
-          (turn-write (l .k - a .a) (getD (l .part) ((l .k - a .a) - 1) 0 + (x .result + l .left)) (λ x h. x + h) (a .part .now) hs (l .part)
-          (omega arith) (place-within s (a .at) (a .n) (a .p) (a .b) (a .a) (a .e) (l .k) (l .inv .within) (start .pre .0 .rounds)) (l .inv .added) (omega arith));
-      same = simp length-set (omega arith);
+          rw (place, before, left)
+          (turn-write (k - a .a) (getD (l .part) ((k - a .a) - 1) 0 + (x .result + l .left)) (λ x h. x + h) (a .part .now) hs (l .part)
+          (some-place (a .a) (a .m) (l .j) from (omega arith)) (place-within s (a .at) (a .n) (a .p) (a .b) (a .a) (a .e) k (l .inv .within) (start .pre .0 .rounds)) (l .inv .added) (omega arith));
+      same = simp length-set (l .inv .same);
     }
 
 same-length : tie.Need-same-length Inv-loop μ-loop
@@ -144,7 +194,8 @@ same-length c = search needs
 returns : tie.Need-returns Inv-loop μ-loop
 returns c =
     let l = c .before .loop in
-    let e : l .k ≡ c .before .before .before .before .args .m = omega arith in
+    let m = c .before .before .before .before .before .args .m in
+    let e : m + l .j ≡ m = omega arith in
     (rw e at (l .inv .added), rw e at (l .inv .carried))
 
 pub add-shown-spec : {M : Type 1} → statement M
@@ -153,18 +204,22 @@ add-shown-spec =
     (tie.spec
     Inv-loop
     μ-loop
+    sub-place
+    less-requires
+    mul-offset
+    add-offset
+    sub-j
     loop-holds
-    sub-k
-    sub-size-at
+    sub-j-2
     mul-size-at
     add-size-at
     size-at-requires
     add-h
-    sub-part
+    add-part
     mul-part
     slice-read-part
-    add-part
-    sub-part-2
+    add-part-2
+    add-part-3
     mul-part-2
     slice-write-part
     carry-before-requires
