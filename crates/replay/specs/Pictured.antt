@@ -1,25 +1,28 @@
 -- What a replay finds between two entries: the lent day is the one that the plain day expects, so that 14, 15, 11 and 16 would pass and
 -- need not be asked. Assumes nothing.
-use mathlib.Core.Path.{_≡_, ap, _∙_}
-use mathlib.Core.List.{List}
+use mathlib.Core.Path.{_≡_, refl, ap, _∙_}
+use mathlib.Core.List.{List, _++_}
 use Prim.Native.Nat.{ℕ, max}
 use native.Mathlib.Omega.{arith}
-use lib.ListN.{length}
+use lib.ListN.{length, take, drop}
+use lib.Seq.{take-at}
 use borrow.Author.Tests.{le-leb}
 use Rattle.laws.specs.Questions.{refusal}
 use Rattle.films.specs.Questions.{verdict}
 use Rattle.model.specs.Day.{Setting, State}
+use Rattle.model.specs.PlacesLaws.{perRound-same}
 use Rattle.model.specs.Calls.{roundsInRange, dayInRange, limitsInRange, sheetLong, sound}
 use Rattle.model.specs.Code.{stateOf}
 use Rattle.model.specs.PlainDay.{PlainDay, atFirst}
-use Rattle.model.specs.Expected.{expected}
-use Rattle.model.specs.FitLaws.{decFits}
+use Rattle.model.specs.Expected.{expected, otherPlaces}
+use Rattle.model.specs.FitLaws.{decFits, rule-held}
 use Rattle.model.specs.Steps.{Accepted, Good, seen}
 use Rattle.model.specs.Runs.{good-first}
 use Rattle.model.specs.Claim.{InBetween}
 use Rattle.model.specs.declared.Booking.{Booking}
 use Rattle.model.specs.declared.Day.{Day}
 use Rattle.questions.specs.Given.{settingAt}
+use Rattle.questions.specs.SheetOf.{SheetKept, sheet-kept}
 use Rattle.questions.specs.Numbers.{roundsHold, dayHolds, limitsHold, sheetHolds, soundHolds, standingAsks}
 use Rattle.replay.specs.PlainRun.{plainEntry}
 use Rattle.replay.specs.DeskRun.{carried}
@@ -42,6 +45,21 @@ pub pictured-between : (S : Setting) (d : State) → Pictured S d → InBetween 
 pictured-between S d p =
     let v = seen S (p .lent) (decFits S) (p .accepted) (p .plain) (p .taken) (p .good) in
     rw (p .is) (record { day = v .clock; limits = p .accepted .limits; sheet = v .sheet; list = v .sound })
+
+-- the sheet is that of the standing bookings
+pub pictured-sheet : (S : Setting) (d : State) → Pictured S d
+    → SheetKept S (take (d .count) (d .records)) (d .opens) (d .reserves) (d .helds)
+pictured-sheet S d p =
+    let lent = p .lent in
+    let bs = p .plain .standing in
+    let there = take-at bs (otherPlaces (length bs) (p .taken) (lent .records)) (length bs) refl in
+    rw (p .is, there)
+    (sheet-kept S bs (lent .opens) (lent .reserves) (lent .helds) _ _ _
+    (record {
+      films = refl;
+      reserve-sums = refl;
+      held-sums = ap (λ (l : List ℕ). l ++ drop (S .rounds) (lent .helds)) (perRound-same _ _ (λ t. rule-held S t bs) 0 (S .rounds));
+    }))
 
 -- each entry keeps it so
 pub pictured-next : (S : Setting) (d : State) → Pictured S d → (e : Entry) → Pictured S (carried S d e .state)

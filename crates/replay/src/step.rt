@@ -4,7 +4,7 @@ use crate::log::ANSWER_WORDS;
 use crate::log::LINE_WORDS;
 use crate::log::write_answer;
 use crate::log::write_lines;
-use booking::book_standing;
+use booking::book_kept;
 use dropping::drop_standing;
 use films::types::Catalogue;
 use limits::bounds::MAX_BOOKINGS;
@@ -18,16 +18,17 @@ ghost use mathlib.Core.Path.{_≡_};
 ghost use mathlib.Core.Bool.{false};
 ghost use mathlib.Core.List.{List};
 ghost use Prim.Native.Nat.{ℕ, _+_, _≤_};
-ghost use lib.ListN.{length};
+ghost use lib.ListN.{length, take};
 ghost use Rattle.laws.specs.Questions.{refusal};
 ghost use Rattle.films.specs.Questions.{verdict};
 ghost use Rattle.films.specs.Catalogue.{catalogueOf};
 ghost use Rattle.model.specs.Code.{stateOf};
-ghost use Rattle.model.specs.Claim.{InBetween};
 ghost use Rattle.questions.specs.Given.{settingAt};
 ghost use Rattle.questions.specs.Numbers.{standingAsks};
+ghost use Rattle.questions.specs.SheetOf.{SheetKept};
 ghost use Rattle.playing.specs.Contract.{linesIn};
 ghost use Rattle.replay.specs.DeskRun.{refusalOf, Refuses, asStep, Steps, TriesPlay};
+ghost use Rattle.replay.specs.Pictured.{Pictured};
 ghost use Rattle.replay.specs.declared.journal.Entry.the-variants.{Book, Drop, Play};
 
 // What an entry leaves: whether it was done, the place in the log after it, the day and the records' places.
@@ -45,7 +46,8 @@ pub struct PlayStep {
     pub day: Day,
 }
 
-// BOOK, where the log has three places left and the questions before booking's own have passed.
+// BOOK, where the log has three places left, the questions before booking's own have passed and the sheet is that of the standing
+// bookings.
 fn step_book(
     file: &[u8],
     c: Catalogue,
@@ -59,10 +61,10 @@ fn step_book(
     reserves: &mut [u64],
     helds: &mut [u64],
 ) -> Stepped
-    requires { ⌜ (at + 3 ≤ length (now log)) × (c ≡ catalogueOf (now file)) × (refusal (standingAsks (now file) day rows places (length (now opens)) (length (now reserves)) (length (now helds))) ≡ 0) ⌝ }
+    requires { ⌜ (at + 3 ≤ length (now log)) × (c ≡ catalogueOf (now file)) × (refusal (standingAsks (now file) day rows places (length (now opens)) (length (now reserves)) (length (now helds))) ≡ 0) × SheetKept (settingAt (now file) day) (take (day .count) rows) (now opens) (now reserves) (now helds) ⌝ }
     ensures { λ r. ⌜ Steps (settingAt (now (file .entry)) day) (stateOf day rows places (now (opens .entry)) (now (reserves .entry)) (now (helds .entry))) (Book q) (now (log .entry)) at r (now (log .exit)) (now (opens .exit)) (now (reserves .exit)) (now (helds .exit)) ⌝ }
 {
-    let booked = book_standing(file, c, day, rows, places, q, opens, reserves, helds);
+    let booked = book_kept(file, c, day, rows, places, q, opens, reserves, helds);
     let answer = booked.answer;
     let after = booked.day;
     let left = booked.rows;
@@ -75,7 +77,7 @@ fn step_book(
     }
 }
 
-// DROP, where the log has three places left and the questions before 19 have passed.
+// DROP, where the log has three places left, the questions before 19 have passed and the sheet is that of the standing bookings.
 fn step_drop(
     file: &[u8],
     c: Catalogue,
@@ -89,7 +91,7 @@ fn step_drop(
     reserves: &mut [u64],
     helds: &mut [u64],
 ) -> Stepped
-    requires { ⌜ (at + 3 ≤ length (now log)) × (c ≡ catalogueOf (now file)) × (refusal (standingAsks (now file) day rows places (length (now opens)) (length (now reserves)) (length (now helds))) ≡ 0) ⌝ }
+    requires { ⌜ (at + 3 ≤ length (now log)) × (c ≡ catalogueOf (now file)) × (refusal (standingAsks (now file) day rows places (length (now opens)) (length (now reserves)) (length (now helds))) ≡ 0) × SheetKept (settingAt (now file) day) (take (day .count) rows) (now opens) (now reserves) (now helds) ⌝ }
     ensures { λ r. ⌜ Steps (settingAt (now (file .entry)) day) (stateOf day rows places (now (opens .entry)) (now (reserves .entry)) (now (helds .entry))) (Drop name) (now (log .entry)) at r (now (log .exit)) (now (opens .exit)) (now (reserves .exit)) (now (helds .exit)) ⌝ }
 {
     let dropped = drop_standing(file, c, day, rows, places, name, opens, reserves, helds);
@@ -187,8 +189,8 @@ fn refusal_of(entry: Entry, verdict: u32) -> u32
     }
 }
 
-// Carries an entry out and logs it from place `at` on; where its words do not fit, nothing is done. The file's catalogue is c, and
-// 14, 15, 11 and 16 would pass.
+// Carries an entry out and logs it from place `at` on; where its words do not fit, nothing is done. The file's catalogue is c, 14,
+// 15, 11 and 16 would pass, and the sheet is that of the standing bookings.
 pub fn step(
     file: &[u8],
     c: Catalogue,
@@ -202,7 +204,7 @@ pub fn step(
     reserves: &mut [u64],
     helds: &mut [u64],
 ) -> Stepped
-    requires { ⌜ (at ≤ length (now log)) × (c ≡ catalogueOf (now file)) × InBetween (settingAt (now file) day) (stateOf day rows places (now opens) (now reserves) (now helds)) ⌝ }
+    requires { ⌜ (at ≤ length (now log)) × (c ≡ catalogueOf (now file)) × Pictured (settingAt (now file) day) (stateOf day rows places (now opens) (now reserves) (now helds)) ⌝ }
     ensures { λ r. ⌜ Steps (settingAt (now (file .entry)) day) (stateOf day rows places (now (opens .entry)) (now (reserves .entry)) (now (helds .entry))) entry (now (log .entry)) at r (now (log .exit)) (now (opens .exit)) (now (reserves .exit)) (now (helds .exit)) ⌝ }
 {
     if log.len() - at < ANSWER_WORDS {

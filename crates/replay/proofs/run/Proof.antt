@@ -75,7 +75,7 @@ step-requires c κs =
     let same = tried .try-play .ensures .kept (c .before .before .before .before .if1 .left) in (
       omega (arith, ap length same, l .inv .placed),
       start .pre .0,
-      pictured-between (settingAt (a .file .now) (l .today)) (stateOf (l .today) (l .list) (a .places) (l .opens) (l .reserves) (l .helds)) (l .inv .pictured),
+      l .inv .pictured,
     )
 
 same-length : tie.Need-same-length Inv-loop μ-loop

@@ -12,7 +12,7 @@ use Rattle.films.specs.Catalogue.{catalogue-verdict}
 use Rattle.films.specs.declared.types.Catalogue.{Catalogue}
 use Rattle.model.specs.Code.{stateOf}
 use Rattle.questions.specs.Given.{settingAt}
-use Rattle.replay.specs.Pictured.{between-asks, between-plays}
+use Rattle.replay.specs.Pictured.{pictured-between, pictured-sheet, between-asks, between-plays}
 use Rattle.replay.specs.StepLaws.{no-room, file-steps, refused-steps}
 use Rattle.replay.specs.declared.journal.Entry.the-variants.{Unknown}
 use Rattle.replay.proofs.step.step.Statement.{statement}
@@ -58,7 +58,13 @@ step-book-requires c κs =
     let start = test .before .before .before .before .before .before .before in
     let a = start .args in
     let accepted : verdict (a .file .now) ≡ 0 = sym (ap (λ (x : Catalogue). x .verdict) (start .pre .1) ∙ catalogue-verdict (a .file .now)) ∙ test .if2 .left in
-    (omega (arith, test .before .if1 .left, start .pre .0), start .pre .1, between-asks (a .file .now) (a .day) (a .rows) (a .places) (a .opens .now) (a .reserves .now) (a .helds .now) accepted (start .pre .2))
+    let S = settingAt (a .file .now) (a .day) in
+    let d = stateOf (a .day) (a .rows) (a .places) (a .opens .now) (a .reserves .now) (a .helds .now) in (
+      omega (arith, test .before .if1 .left, start .pre .0),
+      start .pre .1,
+      between-asks (a .file .now) (a .day) (a .rows) (a .places) (a .opens .now) (a .reserves .now) (a .helds .now) accepted (pictured-between S d (start .pre .2)),
+      pictured-sheet S d (start .pre .2),
+    )
 
 enum-known-entry-2 : tie.Need-enum-known-entry-2
 enum-known-entry-2 c = search needs
@@ -69,7 +75,13 @@ step-drop-requires c κs =
     let start = test .before .before .before .before .before .before .before in
     let a = start .args in
     let accepted : verdict (a .file .now) ≡ 0 = sym (ap (λ (x : Catalogue). x .verdict) (start .pre .1) ∙ catalogue-verdict (a .file .now)) ∙ test .if2 .left in
-    (omega (arith, test .before .if1 .left, start .pre .0), start .pre .1, between-asks (a .file .now) (a .day) (a .rows) (a .places) (a .opens .now) (a .reserves .now) (a .helds .now) accepted (start .pre .2))
+    let S = settingAt (a .file .now) (a .day) in
+    let d = stateOf (a .day) (a .rows) (a .places) (a .opens .now) (a .reserves .now) (a .helds .now) in (
+      omega (arith, test .before .if1 .left, start .pre .0),
+      start .pre .1,
+      between-asks (a .file .now) (a .day) (a .rows) (a .places) (a .opens .now) (a .reserves .now) (a .helds .now) accepted (pictured-between S d (start .pre .2)),
+      pictured-sheet S d (start .pre .2),
+    )
 
 enum-known-entry-3 : tie.Need-enum-known-entry-3
 enum-known-entry-3 c = search needs
@@ -80,7 +92,8 @@ step-play-requires c κs =
     let start = test .before .before .before .before .before .before .before in
     let a = start .args in
     let accepted : verdict (a .file .now) ≡ 0 = sym (ap (λ (x : Catalogue). x .verdict) (start .pre .1) ∙ catalogue-verdict (a .file .now)) ∙ test .if2 .left in
-    (omega (arith, test .before .if1 .left, start .pre .0), start .pre .1, between-plays (a .file .now) (a .day) (a .rows) (a .places) (a .opens .now) (a .reserves .now) (a .helds .now) accepted (start .pre .2))
+    let between = pictured-between (settingAt (a .file .now) (a .day)) (stateOf (a .day) (a .rows) (a .places) (a .opens .now) (a .reserves .now) (a .helds .now)) (start .pre .2) in
+    (omega (arith, test .before .if1 .left, start .pre .0), start .pre .1, between-plays (a .file .now) (a .day) (a .rows) (a .places) (a .opens .now) (a .reserves .now) (a .helds .now) accepted between)
 
 enum-told : tie.Need-enum-told
 enum-told c = search needs
