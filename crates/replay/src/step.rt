@@ -5,7 +5,7 @@ use crate::log::LINE_WORDS;
 use crate::log::write_answer;
 use crate::log::write_lines;
 use booking::book_kept;
-use dropping::drop_standing;
+use dropping::drop_kept;
 use films::types::Catalogue;
 use limits::bounds::MAX_BOOKINGS;
 use limits::refusals::COMMAND;
@@ -94,7 +94,7 @@ fn step_drop(
     requires { ⌜ (at + 3 ≤ length (now log)) × (c ≡ catalogueOf (now file)) × (refusal (standingAsks (now file) day rows places (length (now opens)) (length (now reserves)) (length (now helds))) ≡ 0) × SheetKept (settingAt (now file) day) (take (day .count) rows) (now opens) (now reserves) (now helds) ⌝ }
     ensures { λ r. ⌜ Steps (settingAt (now (file .entry)) day) (stateOf day rows places (now (opens .entry)) (now (reserves .entry)) (now (helds .entry))) (Drop name) (now (log .entry)) at r (now (log .exit)) (now (opens .exit)) (now (reserves .exit)) (now (helds .exit)) ⌝ }
 {
-    let dropped = drop_standing(file, c, day, rows, places, name, opens, reserves, helds);
+    let dropped = drop_kept(file, c, day, rows, places, name, opens, reserves, helds);
     let answer = dropped.answer;
     let after = dropped.day;
     let left = dropped.rows;
