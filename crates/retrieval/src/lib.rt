@@ -96,7 +96,7 @@ fn carry_shown(file: &[u8], at: usize, n: usize, b: u64, i: usize) -> u64
 }
 
 // The carry of the film's rounds from t on: what they leave to be read before round t.
-fn carry_from(file: &[u8], at: usize, n: usize, p: usize, b: u64, t: usize) -> u64
+pub fn carry_from(file: &[u8], at: usize, n: usize, p: usize, b: u64, t: usize) -> u64
     requires { ⌜ (InRange (now file) at n p b) × (t ≤ p + n) ⌝ }
     ensures { λ r. ⌜ (r ≡ carry b (drop t (sendsAt (now (file .entry)) at n p))) × (r ≤ maxHeld) ⌝ }
 {

@@ -95,7 +95,7 @@ fn open_from(starts: &[usize], ends: &[usize], count: usize, w: usize, last: usi
 
 // Adds what the stream holds in the rounds from w to e - 1 to the first places of the window, where c is the carry of its
 // rounds from e on. Gives the carry of its rounds from w on.
-fn window_add(file: &[u8], x: Stream, window: &mut [u64], w: usize, e: usize, c: u64) -> u64
+pub fn window_add(file: &[u8], x: Stream, window: &mut [u64], w: usize, e: usize, c: u64) -> u64
     requires { ⌜ Windowed (now file) x (now window) w e c ⌝ }
     ensures { λ r. ⌜ Added (now (file .entry)) x (now (window .entry)) (now (window .exit)) w e r ⌝ }
 {

@@ -1,0 +1,105 @@
+// What the bookings of the table hold in the rounds ahead, a row of AHEAD_ROUNDS words each.
+use crate::rows::move_down;
+use crate::table::stream_at;
+use load::stream::Stream;
+use retrieval::carry_from;
+use sheet::clear::clear;
+use sheet::memory::window_add;
+ghost use mathlib.Core.Path.{_≡_};
+ghost use Prim.Native.Nat.{_+_, _*_, _-_, _≤_, _<_};
+ghost use lib.ListN.{length};
+ghost use Rattle.load.specs.Basic.{Playable};
+ghost use Rattle.load.specs.Stream.{carryFrom};
+ghost use Rattle.player.specs.Rows.{MovedDown};
+ghost use Rattle.player.specs.Table.{streamAt, Rows};
+ghost use Rattle.player.specs.Ahead.{aheadRounds, Ahead, Looks, HeldBy, RowAhead, apartFrom};
+
+// rounds ahead for which is kept what a booking holds
+pub const AHEAD_ROUNDS: usize = 32;
+
+// words of all bookings of a day
+pub const AHEAD_WORDS: usize = 8192;
+
+// The carry of the stream's rounds from `to` on: what they leave to be read before.
+fn carry_after(file: &[u8], x: Stream, to: usize) -> u64
+    requires { ⌜ Playable (now file) x × (x .start ≤ to) ⌝ }
+    ensures { λ r. ⌜ r ≡ carryFrom (now (file .entry)) to x ⌝ }
+{
+    let age = to - x.start;
+    if x.prefetch + x.rounds <= age {
+        return 0;
+    }
+    carry_from(file, x.at, x.rounds, x.prefetch, x.reserve, age)
+}
+
+// Writes what the stream holds in the rounds from `from` to `to` - 1, a word each.
+fn write_held(file: &[u8], x: Stream, part: &mut [u64], from: usize, to: usize)
+    requires { ⌜ Playable (now file) x × (x .start ≤ to) × (from ≤ to) × (length (now part) ≡ to - from) ⌝ }
+    ensures { λ _. ⌜ HeldBy (now (file .entry)) x from to (now (part .exit)) ⌝ }
+{
+    clear(part, to - from);
+    let c = carry_after(file, x, to);
+    window_add(file, x, part, from, to, c);
+}
+
+// Whether a booking is open in none of the rounds from `from` to `to` - 1, by its start and its end.
+fn apart_from(start: usize, end: usize, from: usize, to: usize) -> bool
+    ensures { λ r. ⌜ r ≡ apartFrom start end from to ⌝ }
+{
+    if to <= start {
+        return true;
+    }
+    end <= from
+}
+
+// Works out what booking i holds in the rounds from `from` to `to` - 1, where it is open in one of them.
+pub fn look_ahead_row(
+    file: &[u8],
+    table: &[u64],
+    i: usize,
+    ahead: &mut [u64],
+    from: usize,
+    to: usize,
+)
+    requires { ⌜ Looks (now file) (now table) i (now ahead) from to ⌝ }
+    ensures { λ _. ⌜ RowAhead (now (file .entry)) (streamAt (now (table .entry)) i) from to (aheadRounds * i) (now (ahead .entry)) (now (ahead .exit)) ⌝ }
+{
+    let x = stream_at(table, i);
+    if !apart_from(x.start, x.start + x.prefetch + x.rounds, from, to) {
+        let place = AHEAD_ROUNDS * i;
+        let until = place + (to - from);
+        write_held(file, x, &mut ahead[place..until], from, to);
+    }
+}
+
+// Works out what the first `count` bookings hold in the rounds from `from` to `to` - 1.
+pub fn look_ahead(
+    file: &[u8],
+    table: &[u64],
+    count: usize,
+    ahead: &mut [u64],
+    from: usize,
+    to: usize,
+)
+    requires { ⌜ (Rows (now file) count (now table)) × (from ≤ to) × (to ≤ from + aheadRounds) × (aheadRounds * count ≤ length (now ahead)) ⌝ }
+    ensures { λ _. ⌜ Ahead (now (file .entry)) (now (table .entry)) count from to (now (ahead .exit)) ⌝ }
+{
+    let mut i = 0;
+    while i < count {
+        look_ahead_row(file, table, i, ahead, from, to);
+        i += 1;
+    }
+}
+
+// Takes the words of booking i of the first `count` out: those after them move down.
+pub fn forget_ahead(ahead: &mut [u64], count: usize, i: usize)
+    requires { ⌜ (i < count) × (aheadRounds * count ≤ length (now ahead)) ⌝ }
+    ensures { λ _. ⌜ MovedDown (now (ahead .entry)) aheadRounds (aheadRounds * i) (aheadRounds * (count - 1)) (now (ahead .exit)) ⌝ }
+{
+    move_down(
+        ahead,
+        AHEAD_ROUNDS,
+        AHEAD_ROUNDS * i,
+        AHEAD_ROUNDS * (count - 1),
+    );
+}

@@ -1,0 +1,81 @@
+// The report of a round from the table and from what the bookings hold: the words of a line for each film open, and the cabs
+// served.
+use crate::ahead::AHEAD_ROUNDS;
+use crate::rows::write_four;
+use crate::table::name_at;
+use crate::table::open_at;
+use crate::table::stream_at;
+use load::stream::Stream;
+use playing::cabs::cabs_in;
+use playing::cabs::count_of;
+use retrieval::send_at;
+ghost use mathlib.Core.Path.{_≡_};
+ghost use Prim.Native.Nat.{_+_, _*_, _≤_, _<_, min};
+ghost use lib.ListN.{length};
+ghost use Rattle.load.specs.Basic.{Playable};
+ghost use Rattle.load.specs.Stream.{endOf, holdsIn};
+ghost use Rattle.player.specs.Words.{Wrote};
+ghost use Rattle.player.specs.Round.{heldWords, Tellable, Reports};
+
+// The place after the words of a round, and the count of cab bits of the films showing.
+pub struct Told {
+    pub next: usize,
+    pub cabs: u64,
+}
+
+// The smaller of two.
+fn smaller(a: u64, b: u64) -> u64
+    ensures { λ r. ⌜ r ≡ min a b ⌝ }
+{
+    if a < b { a } else { b }
+}
+
+// Writes the line of a booking that is open in round t; x is its stream and `held` what it holds.
+fn write_row(
+    file: &[u8],
+    name: u64,
+    x: Stream,
+    t: usize,
+    held: u64,
+    out: &mut [u64],
+    at: usize,
+) -> usize
+    requires { ⌜ Playable (now file) x × (x .start ≤ t) × (t < endOf x) × (held ≡ holdsIn (now file) t x) × (at + 4 ≤ length (now out)) ⌝ }
+    ensures { λ r. ⌜ Wrote (now (out .entry)) at (heldWords (now (file .entry)) t name x) (now (out .exit)) r ⌝ }
+{
+    let send = send_at(file, x.at, x.rounds, x.prefetch, t - x.start);
+    write_four(out, at, name, smaller(x.reserve, held), send, held)
+}
+
+// Writes the lines of round t from `at` on, for each of the first `count` bookings that is open in it.
+pub fn report(
+    file: &[u8],
+    table: &[u64],
+    count: usize,
+    ahead: &[u64],
+    from: usize,
+    t: usize,
+    out: &mut [u64],
+    at: usize,
+) -> Told
+    requires { ⌜ Tellable (now file) (now table) count (now ahead) from t (now out) at ⌝ }
+    ensures { λ r. ⌜ Reports (now (file .entry)) (now (table .entry)) count t (now (out .entry)) at (now (out .exit)) r ⌝ }
+{
+    let mut next = at;
+    let mut taken: u64 = 0;
+    let mut i = 0;
+    while i < count {
+        if open_at(table, i, t) {
+            let name = name_at(table, i);
+            let x = stream_at(table, i);
+            let k = AHEAD_ROUNDS * i + (t - from);
+            next = write_row(file, name, x, t, ahead[k], out, next);
+            taken = taken | cabs_in(x, t);
+        }
+        i += 1;
+    }
+    Told {
+        next,
+        cabs: count_of(taken),
+    }
+}
