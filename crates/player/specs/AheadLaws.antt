@@ -2,25 +2,24 @@
 use mathlib.Core.Path.{_≡_, refl, sym, ap, _∙_}
 use mathlib.Core.Bool.{Bool, true, false, cond}
 use mathlib.Core.List.{List, [], _++_, append-assoc, append-nil}
-use Prim.Native.Nat.{ℕ, _+_, _-_, _*_, _^_, _≤_, _<_}
+use Prim.Native.Nat.{ℕ, _+_, _-_, _*_, _≤_, _<_}
 use native.Mathlib.Decide.{decLe}
 use native.Mathlib.Omega.{arith}
 use lib.Dec.{leb}
-use lib.ListN.{length, getD, take, drop, replicate, length-append, length-replicate, getD-replicate, drop-of-length-le, List·getD-eq-default}
+use lib.ListN.{length, getD, take, drop, replicate, length-replicate, getD-replicate, drop-of-length-le, List·getD-eq-default}
 use borrow.Author.Tests.{leb-true, leb-false}
 use borrow.Rule.Slice.PartMut.{putMid, post-is}
-use Rattle.laws.specs.Sums.{largest}
-use Rattle.retrieval.specs.Stored.{maxHeld, largest-bound}
+use Rattle.retrieval.specs.Stored.{largest-bound}
 use Rattle.load.specs.Basic.{Playable}
 use Rattle.load.specs.Stream.{endOf, openIn, holdsIn, carryFrom}
 use Rattle.load.specs.StreamLaws.{open-place}
 use Rattle.load.specs.declared.stream.Stream.{Stream}
 use Rattle.sheet.specs.Memory.{Windowed, Added}
 use Rattle.player.specs.Rows.{MovedDown}
-use Rattle.player.specs.Table.{rowWords, streamAt}
+use Rattle.player.specs.Table.{rowWords, withRow, streamAt}
 use Rattle.player.specs.Ahead.{aheadRounds, Ahead, HeldBy, RowAhead, apartFrom}
 use Rattle.player.specs.ListLaws.{put, put-length, put-before, put-inside, put-after}
-use Rattle.player.specs.TableLaws.{same-stream, row-before, row-down}
+use Rattle.player.specs.TableLaws.{same-stream, row-other, row-before, row-down}
 
 -- ---- one booking
 
@@ -126,7 +125,12 @@ module _ (f table : List ℕ) (n from to : ℕ) (ahead : List ℕ) (a : Ahead f 
   ahead-same new s =
       record { size = a .size; few = a .few; held = λ i t u v w o. rw (s i u) (a .held i t u v w (rw (s i u) at o)) }
 
-  -- one more booking
+  -- with a row written after those of the n bookings
+  pub ahead-kept : (name : ℕ) (x : Stream) → rowWords * n + rowWords ≤ length table → Ahead f (withRow table n name x) n from to ahead
+  ahead-kept name x h =
+      ahead-same (withRow table n name x) (λ i u. same-stream (withRow table n name x) i table i (row-other table n name x h i u))
+
+  -- one more booking: its row is the next, and its words are worked out
   pub ahead-more : (new : List ℕ) → aheadRounds * n + aheadRounds ≤ length ahead
       → RowAhead f (streamAt table n) from to (aheadRounds * n) ahead new → Ahead f table (n + 1) from to new
   ahead-more new h r =

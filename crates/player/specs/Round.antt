@@ -1,6 +1,6 @@
 -- A round played from the table: the lines of its report and the cabs served.
 use mathlib.Core.Path.{_≡_}
-use mathlib.Core.Bool.{Bool, cond}
+use mathlib.Core.Bool.{cond}
 use mathlib.Core.List.{List, [], _∷_, _++_}
 use Prim.Native.Nat.{ℕ, zero, suc, _+_, _-_, _*_, _≤_, min}
 use lib.ListN.{length, getD, take}
@@ -16,7 +16,7 @@ use Rattle.load.specs.declared.stream.Stream.{Stream}
 use Rattle.questions.specs.Given.{settingAt}
 use Rattle.playing.specs.CabLaws.{cabsIn}
 use Rattle.playing.specs.Ready.{Ready}
-use Rattle.player.specs.Table.{nameAt, streamAt, Ended, Rows, Tabled}
+use Rattle.player.specs.Table.{nameAt, streamAt, Rows, Tabled}
 use Rattle.player.specs.Ahead.{Ahead}
 use Rattle.player.specs.Words.{linesWords, Wrote}
 use Rattle.player.specs.declared.report.Told.{Told}

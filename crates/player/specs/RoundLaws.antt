@@ -1,10 +1,8 @@
 -- A round played from the table, row by row, and the day's report. Assumes nothing.
 use mathlib.Core.Path.{_≡_, refl, sym, ap, ap₂, _∙_}
-use mathlib.Core.Bool.{Bool, true, false, cond, _&&_}
+use mathlib.Core.Bool.{Bool, true, false, cond}
 use mathlib.Core.List.{List, [], _∷_, _++_, append-nil}
 use Prim.Native.Nat.{ℕ, zero, suc, _+_, _-_, _*_, _≤_, _<_, min}
-use native.Mathlib.Nat.{not-suc-le-zero}
-use native.Mathlib.Decide.{decLe}
 use native.Mathlib.Numerals.{add-one}
 use native.Mathlib.Omega.{arith}
 use lib.Dec.{leb, ltb}
@@ -20,7 +18,6 @@ use Rattle.model.specs.Day.{Setting, openAt, cabsAt, exists}
 use Rattle.model.specs.Report.{lineOf, linesOf}
 use Rattle.model.specs.declared.Booking.{Booking}
 use Rattle.model.specs.declared.Day.{Day}
-use Rattle.model.specs.declared.Line.{Line}
 use Rattle.load.specs.Basic.{Playable}
 use Rattle.load.specs.Stream.{endOf, sendsOf, openIn, showsIn, holdsIn}
 use Rattle.load.specs.StreamLaws.{open-within, open-place}
@@ -29,15 +26,13 @@ use Rattle.load.specs.declared.stream.Stream.{Stream}
 use Rattle.questions.specs.Given.{settingAt}
 use Rattle.questions.specs.Tied.{Tied, tied-open}
 use Rattle.playing.specs.CabLaws.{cabsIn, cabs-tied}
-use Rattle.playing.specs.Lines.{lineAt}
 use Rattle.playing.specs.LineLaws.{line-tied, lines-open, lines-shut}
 use Rattle.playing.specs.Ready.{row-tied, row-exists, row-playable}
-use Rattle.player.specs.Table.{rowWords, nameAt, streamAt, endAt, RowIs, Ended, Rows}
+use Rattle.player.specs.Table.{nameAt, streamAt, RowIs, Rows}
 use Rattle.player.specs.Ahead.{aheadRounds, Ahead}
 use Rattle.player.specs.Words.{lineWords, linesWords, Wrote}
 use Rattle.player.specs.WordLaws.{wrote-none, wrote-length, wrote-then, lines-append}
 use Rattle.player.specs.Round.{heldWords, roundWords, roundCabs, roundOpen, OfDay, Opens, Reports}
-use Rattle.player.specs.declared.report.Told.{Told}
 
 -- ---- how many are open
 

@@ -1,7 +1,6 @@
 -- `player::report::write_row` meets its contract: what is read is all that is held, up to the reserve. Assumes nothing.
-use Prim.Native.Nat.{ℕ, _+_, _-_, _*_, _≤_, _<_}
-use mathlib.Core.Path.{_≡_, refl, sym, ap, subst, _∙_}
-use native.Mathlib.Omega.{arith}
+use Prim.Native.Nat.{ℕ, _-_}
+use mathlib.Core.Path.{subst}
 use mathlib.Core.List.{List}
 use Rattle.player.specs.Words.{Wrote}
 use Rattle.player.specs.RoundLaws.{line-words}

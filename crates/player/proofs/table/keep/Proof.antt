@@ -1,6 +1,5 @@
 -- `player::table::keep` meets its contract: the row is written in two parts. Assumes nothing.
-use Prim.Native.Nat.{ℕ, _+_, _-_, _*_, _≤_, _<_}
-use native.Mathlib.Omega.{arith}
+use Prim.Native.Nat.{_-_}
 use Rattle.player.specs.TableLaws.{row-parts}
 use borrow.Author.Needs.{needs}
 use Rattle.player.proofs.table.keep.Statement.{statement}

@@ -1,5 +1,5 @@
 -- `player::table::stream_at` meets its contract: the row's words stand below the table's length. Assumes nothing.
-use Prim.Native.Nat.{ℕ, _+_, _-_, _*_, _≤_, _<_}
+use Prim.Native.Nat.{_+_, _-_, _*_}
 use lib.ListN.{getD}
 use Rattle.player.specs.Table.{rowWords, streamAt}
 use borrow.Author.Needs.{needs}
