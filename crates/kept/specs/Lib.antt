@@ -1,0 +1,3 @@
+-- What is kept of a day from call to call: definitions and laws.
+pub mod Kept
+pub mod KeptLaws
