@@ -1,3 +1,2 @@
--- What is kept of a day from call to call: definitions and laws.
-pub mod Kept
+-- The table of a day's bookings, written row by row.
 pub mod KeptLaws

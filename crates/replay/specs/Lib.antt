@@ -15,4 +15,6 @@ pub mod Pictured
 pub mod Writing
 pub mod StepLaws
 pub mod LoopLaws
+pub mod Rounds
+pub mod RoundLaws
 pub mod OpeningLaws

@@ -2,9 +2,9 @@
 -- need not be asked. Assumes nothing.
 use mathlib.Core.Path.{_≡_, refl, ap, _∙_}
 use mathlib.Core.List.{List, _++_}
-use Prim.Native.Nat.{ℕ, max}
+use Prim.Native.Nat.{ℕ, max, _≤_}
 use native.Mathlib.Omega.{arith}
-use lib.ListN.{length, take, drop}
+use lib.ListN.{length, take, drop, length-append}
 use lib.Seq.{take-at}
 use borrow.Author.Tests.{le-leb}
 use Rattle.laws.specs.Questions.{refusal}
@@ -60,6 +60,12 @@ pictured-sheet S d p =
       reserve-sums = refl;
       held-sums = ap (λ (l : List ℕ). l ++ drop (S .rounds) (lent .helds)) (perRound-same _ _ (λ t. rule-held S t bs) 0 (S .rounds));
     }))
+
+-- the standing bookings stand in the records' places
+pub pictured-there : (S : Setting) (d : State) → Pictured S d → d .count ≤ length (d .records)
+pictured-there S d p =
+    let bs = p .plain .standing in
+    rw (p .is) (omega (arith, length-append bs (otherPlaces (length bs) (p .taken) (p .lent .records))))
 
 -- each entry keeps it so
 pub pictured-next : (S : Setting) (d : State) → Pictured S d → (e : Entry) → Pictured S (carried S d e .state)

@@ -28,7 +28,8 @@ use Rattle.dropping.specs.declared.DropOutcome.{DropOutcome}
 use Rattle.playing.specs.Lines.{noLine}
 use Rattle.playing.specs.Contract.{linesIn, linesFor, Plays}
 use Rattle.playing.specs.declared.Played as Play
-use Rattle.replay.specs.Log.{answerWords, linesWords, loggedWords, Wrote}
+use Rattle.player.specs.Words.{linesWords, Wrote}
+use Rattle.replay.specs.Log.{answerWords, loggedWords}
 use Rattle.replay.specs.Writing.{wrote-then, lines-length}
 use Rattle.replay.specs.DeskRun.{blankReport, refusalOf, outcomeWords, carried, Took, Kept, Steps, asStep, TriesPlay, Refuses}
 use Rattle.replay.specs.declared.journal.Entry.{Entry}
@@ -238,24 +239,32 @@ module _ (f : List ℕ) (day : Day) (rows : List Booking) (places room : ℕ) (x
             state = same-state (ap (λ (u : Day). u .now) y) (ap (λ (u : Day). u .count) y) refl z refl refl refl;
           })
 
-      -- they do
-      pub play-done : linesIn (x .answer) ≤ (length old - p - 3) / 4 → r .done ≡ true → r .day ≡ x .day → r .rows ≡ rows
-          → (mid : List ℕ) (from : ℕ) → Wrote old p (answerWords (x .answer)) mid from
-          → Wrote mid from (linesWords (take (linesIn (x .answer)) (x .lines))) log′ (r .next)
+      -- they do, and stand in the log
+      pub play-whole : linesIn (x .answer) ≤ (length old - p - 3) / 4 → r .done ≡ true → r .day ≡ x .day → r .rows ≡ rows
+          → Wrote old p (loggedWords (x .answer) (take (linesIn (x .answer)) (x .lines))) log′ (r .next)
           → Steps (settingAt f day) asLent (E.Play room) old p r log′ opens reserves helds
-      play-done less t y z mid from v w =
+      play-whole less t y z w =
           let blank = replicate room noLine in
           let e = length-replicate room noLine in
-          let three = answer-length (x .answer) in
           steps-done (settingAt f day) asLent (E.Play room) old p r log′ opens reserves helds t
           (record {
             fit = omega (arith, play-length);
-            wrote = rw play-words (wrote-then old p (answerWords (x .answer)) mid from (linesWords (take (linesIn (x .answer)) (x .lines))) log′ (r .next) (omega arith) v w);
+            wrote = rw play-words w;
             day = y ∙ sym (plays .day opens reserves helds blank e);
             state =
                 same-state (ap (λ (u : Day). u .now) y) (ap (λ (u : Day). u .count) y) refl z refl refl refl
                 ∙ sym (plays .state opens reserves helds blank e);
           })
+
+      -- written in two parts
+      pub play-done : linesIn (x .answer) ≤ (length old - p - 3) / 4 → r .done ≡ true → r .day ≡ x .day → r .rows ≡ rows
+          → (mid : List ℕ) (from : ℕ) → Wrote old p (answerWords (x .answer)) mid from
+          → Wrote mid from (linesWords (take (linesIn (x .answer)) (x .lines))) log′ (r .next)
+          → Steps (settingAt f day) asLent (E.Play room) old p r log′ opens reserves helds
+      play-done less t y z mid from v w =
+          let three = answer-length (x .answer) in
+          play-whole less t y z
+          (wrote-then old p (answerWords (x .answer)) mid from (linesWords (take (linesIn (x .answer)) (x .lines))) log′ (r .next) (omega arith) v w)
 
 -- ---- with the records as they were
 

@@ -5,9 +5,9 @@ use Prim.Native.Nat.{ℕ, suc, _+_, _*_, _≤_, _<_}
 use native.Mathlib.Omega.{arith}
 use native.Mathlib.Numerals.{add-one}
 use lib.ListN.{length, getD, take, drop, set, length-append, length-take, length-drop, take-append-drop}
-use lib.Seq.{sets-eq, take-at, drop-at, drop-drop, take-suc, length-take-le}
+use lib.Seq.{sets-eq, take-at, drop-at, drop-drop, take-suc, length-take-le, take-append-le, take-take}
 use Rattle.model.specs.declared.Line.{Line}
-use Rattle.replay.specs.Log.{lineWords, linesWords, Wrote}
+use Rattle.player.specs.Words.{lineWords, linesWords, Wrote}
 
 -- nothing
 pub wrote-none : (old : List ℕ) (at : ℕ) → Wrote old at [] old at
@@ -44,6 +44,23 @@ wrote-then old at ws mid next us new last h v w =
     record {
       log = w .log ∙ rw (front, back) (simp append-assoc);
       place = omega (arith, v .place, w .place, length-append ws us);
+    }
+
+-- words after a place that is left for others, and then those
+pub wrote-under : (old : List ℕ) (at : ℕ) (ws us mid : List ℕ) (next : ℕ) (new : List ℕ) (last : ℕ) → at + length ws + length us ≤ length old
+    → Wrote old (at + length ws) us mid next → Wrote mid at ws new last → Wrote old at (ws ++ us) new next
+wrote-under old at ws us mid next new last h v w =
+    let n = at + length ws in
+    let front : length (take n old) ≡ n = length-take-le n old (omega arith) in
+    let rest = us ++ drop (n + length us) old in
+    let is : mid ≡ take n old ++ rest = v .log ∙ append-assoc (take n old) us (drop (n + length us) old) in
+    let before : take at mid ≡ take at old =
+    ap (take at) is ∙ take-append-le at (take n old) rest (omega arith) ∙ take-take at n old (omega arith) in
+    let after : drop n mid ≡ rest = ap (drop n) is ∙ drop-at (take n old) rest n front in
+    let both : n + length us ≡ at + length (ws ++ us) = omega (arith, length-append ws us) in
+    record {
+      log = w .log ∙ rw (before, after, both) (simp append-assoc);
+      place = omega (arith, v .place, length-append ws us);
     }
 
 -- ---- stores one after the other

@@ -1,19 +1,23 @@
 // Replay of a day's journal.
 pub mod journal;
 pub mod log;
+pub mod rounds;
 pub mod step;
 
 use films::catalogue::catalogue;
 use films::types::Catalogue;
 use journal::ENTRY_WORDS;
 use journal::entry_at;
+use kept::keep_table;
 use limits::bounds::MAX_BOOKINGS;
 use model::Answer;
 use model::Booking;
 use model::Day;
 use opening::open;
+use player::ahead::AHEAD_WORDS;
+use player::table::TABLE_WORDS;
+use rounds::play_span;
 use step::step;
-use step::try_play;
 ghost use mathlib.Core.Path.{_≡_};
 ghost use mathlib.Core.List.{List};
 ghost use lib.ListN.{length};
@@ -70,29 +74,44 @@ fn run(
     ensures { λ r. ⌜ Replays (runResult (settingAt (now (file .entry)) day) (deskRun (settingAt (now (file .entry)) day) (stateOf day rows places (now (opens .entry)) (now (reserves .entry)) (now (helds .entry))) (length (now (log .entry))) (entries (now (journal .entry))))) (now (log .entry)) r (now (log .exit)) (now (opens .exit)) (now (reserves .exit)) (now (helds .exit)) ⌝ }
 {
     let count = journal.len() / ENTRY_WORDS;
+    let verdict = c.verdict;
+    let mut table = [0u64; TABLE_WORDS];
+    let mut ahead = [0u64; AHEAD_WORDS];
+    keep_table(file, c, day, rows, &mut table);
     let mut today = day;
     let mut list = rows;
     let mut at = 0;
     let mut i = 0;
     while i < count {
-        let entry = entry_at(journal, i);
-        let played = try_play(file, c, today, list, places, entry, log, at);
-        if played.done {
-            let after = played.day;
-            today = after;
-            at = played.next;
-            i += 1;
+        let span = play_span(
+            file,
+            verdict,
+            today,
+            &table,
+            &mut ahead,
+            journal,
+            i,
+            count,
+            log,
+            at,
+        );
+        let here = span.day;
+        let place = span.next;
+        if i < span.entry {
+            today = here;
+            at = place;
+            i = span.entry;
             continue;
         }
         let stepped = step(
             file,
             c,
-            today,
+            here,
             list,
             places,
-            entry,
+            entry_at(journal, i),
             log,
-            at,
+            place,
             opens,
             reserves,
             helds,
@@ -101,13 +120,14 @@ fn run(
             return Replayed {
                 refusal: 0,
                 entries: i as u64,
-                words: at as u64,
-                day: today,
+                words: place as u64,
+                day: here,
                 rows: list,
             };
         }
         let after = stepped.day;
         let left = stepped.rows;
+        keep_table(file, c, after, left, &mut table);
         today = after;
         list = left;
         at = stepped.next;

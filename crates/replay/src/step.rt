@@ -20,14 +20,13 @@ ghost use mathlib.Core.List.{List};
 ghost use Prim.Native.Nat.{ℕ, _+_, _≤_};
 ghost use lib.ListN.{length, take};
 ghost use Rattle.laws.specs.Questions.{refusal};
-ghost use Rattle.films.specs.Questions.{verdict};
 ghost use Rattle.films.specs.Catalogue.{catalogueOf};
 ghost use Rattle.model.specs.Code.{stateOf};
 ghost use Rattle.questions.specs.Given.{settingAt};
 ghost use Rattle.questions.specs.Numbers.{standingAsks};
 ghost use Rattle.questions.specs.SheetOf.{SheetKept};
 ghost use Rattle.playing.specs.Contract.{linesIn};
-ghost use Rattle.replay.specs.DeskRun.{refusalOf, Refuses, asStep, Steps, TriesPlay};
+ghost use Rattle.replay.specs.DeskRun.{refusalOf, Refuses, asStep, Steps};
 ghost use Rattle.replay.specs.Pictured.{Pictured};
 ghost use Rattle.replay.specs.declared.journal.Entry.the-variants.{Book, Drop, Play};
 
@@ -261,47 +260,5 @@ pub fn step(
             }
         }
         Entry::Unknown => step_refused(day, rows, log, at, COMMAND),
-    }
-}
-
-// Nothing done.
-fn not_played(day: Day, at: usize) -> PlayStep
-    ensures { λ r. ⌜ r .done ≡ false ⌝ }
-{
-    PlayStep {
-        done: false,
-        next: at,
-        day,
-    }
-}
-
-// Carries an entry out as `step` does where it is a PLAY, the film file is accepted and its words fit; else nothing is done. PLAY
-// leaves the records as they are: they are not given back, so that a played round does not copy them.
-pub fn try_play(
-    file: &[u8],
-    c: Catalogue,
-    day: Day,
-    rows: [Booking; MAX_BOOKINGS],
-    places: u64,
-    entry: Entry,
-    log: &mut [u64],
-    at: usize,
-) -> PlayStep
-    requires { ⌜ (at ≤ length (now log)) × (c ≡ catalogueOf (now file)) × (verdict (now file) ≡ 0 → refusal (standingAsks (now file) day rows places (day .rounds) (day .rounds) (day .rounds)) ≡ 0) ⌝ }
-    ensures { λ r. ⌜ TriesPlay (settingAt (now (file .entry)) day) day rows places entry (now (log .entry)) at r (now (log .exit)) ⌝ }
-{
-    let left = log.len() - at;
-    if left < ANSWER_WORDS {
-        return not_played(day, at);
-    }
-    let verdict = c.verdict;
-    if verdict != 0 {
-        return not_played(day, at);
-    }
-    match entry {
-        Entry::Play(room) => step_play(file, c, day, rows, places, room, log, at),
-        Entry::Book(_) => not_played(day, at),
-        Entry::Drop(_) => not_played(day, at),
-        Entry::Unknown => not_played(day, at),
     }
 }

@@ -1,151 +1,187 @@
 -- `run` meets its contract. The loop's invariant: the whole run is that of the entries done, whose words stand in the log, and of
--- the entries that follow, and the day is the plain day's picture. The measure is the entries that follow. Assumes nothing.
-use mathlib.Core.Path.{refl, ap, _∙_}
+-- the entries that follow, the day is the plain day's picture, and the table is that of its bookings. The measure is the entries that
+-- follow. Assumes nothing.
+use mathlib.Core.Path.{_≡_, refl, sym, _∙_}
 use Prim.Native.Nat.{_-_}
 use native.Mathlib.Omega.{arith}
-use borrow.Author.Needs.{needs}
 use lib.ListN.{length}
+use borrow.Author.Needs.{needs}
 use borrow.Author.Tests.{not-true, not-false}
-use Rattle.model.specs.Code.{stateOf}
-use Rattle.questions.specs.Given.{settingAt}
-use Rattle.replay.specs.DeskRun.{asStep}
-use Rattle.replay.specs.Pictured.{pictured-between, between-plays}
 use Rattle.replay.specs.LoopLaws.{Going, going-first, going-next, going-full, going-end}
+use Rattle.replay.specs.Rounds.{TabledFor}
+use Rattle.replay.specs.RoundLaws.{between-ready, between-tabled, between-standing}
 use Rattle.replay.proofs.run.Statement.{statement}
 use Rattle.replay.proofs.run.Tie as tie
 
 abbrev Inv-loop : tie.InvT-loop
-Inv-loop file c places journal log₀ opens₀ reserves₀ helds₀ count today₀ list₀ at₀ i₀ log opens reserves helds today list at i =
+Inv-loop file c places journal log₀ opens₀ reserves₀ helds₀ count verdict table₀ ahead₀ today₀ list₀ at₀ i₀ log opens reserves helds table ahead today list at i =
     Going file today₀ list₀ places journal log₀ opens₀ reserves₀ helds₀ count log opens reserves helds today list at i
+    × TabledFor file today list table
+    × (length table ≡ 2048)
+    × (length ahead ≡ 8192)
 
 abbrev μ-loop : tie.MeasureT-loop
-μ-loop file c places journal log₀ opens₀ reserves₀ helds₀ count today₀ list₀ at₀ i₀ log opens reserves helds today list at i =
+μ-loop file c places journal log₀ opens₀ reserves₀ helds₀ count verdict table₀ ahead₀ today₀ list₀ at₀ i₀ log opens reserves helds table ahead today list at i =
     count - i
+
+slice-aggregate-keep-table : tie.Need-slice-aggregate-keep-table Inv-loop μ-loop
+slice-aggregate-keep-table c = search needs
+
+keep-table-requires : tie.Need-keep-table-requires Inv-loop μ-loop
+keep-table-requires c κs =
+    let start = c .before .before .before .before .before .before .before in
+    let a = start .args in
+    (between-ready (a .file .now) (a .c) (start .pre .0) (a .day) (a .rows) (a .places) (a .opens .now) (a .reserves .now) (a .helds .now) (start .pre .1), omega arith)
 
 loop-holds : tie.Need-loop-holds Inv-loop μ-loop
 loop-holds c =
-    let start = c .before .before .before .before .before .before in
-    let a = start .args in
-    going-first (a .file .now) (a .day) (a .rows) (a .places) (a .journal .now) (a .log .now) (a .opens .now) (a .reserves .now) (a .helds .now) _ (start .pre .1)
-
-entry-at-requires : tie.Need-entry-at-requires Inv-loop μ-loop
-entry-at-requires c κs = search needs
-
-try-play-requires : tie.Need-try-play-requires Inv-loop μ-loop
-try-play-requires c κs =
-    let l = c .before .before .before .loop in
-    let start = c .before .before .before .before .before .before .before .before .before .before in
-    let a = start .args in
-    let S = settingAt (a .file .now) (l .today) in
-    let between = pictured-between S (stateOf (l .today) (l .list) (a .places) (l .opens) (l .reserves) (l .helds)) (l .inv .pictured) in (
-      l .inv .placed,
-      start .pre .0,
-      λ accepted. between-plays (a .file .now) (l .today) (l .list) (a .places) (l .opens) (l .reserves) (l .helds) accepted between,
+    let kept = c .before .keep-table in
+    let start = c .before .before .before .before .before .before .before .before .before in
+    let a = start .args in (
+      going-first (a .file .now) (a .day) (a .rows) (a .places) (a .journal .now) (a .log .now) (a .opens .now) (a .reserves .now) (a .helds .now) _ (start .pre .1),
+      between-tabled (a .file .now) (a .c) (start .pre .0) (a .day) (a .rows) (a .places) (a .opens .now) (a .reserves .now) (a .helds .now) (start .pre .1) _ (kept .ensures .0),
+      kept .kept .1 .1 .1 .1 .0,
+      refl,
     )
 
-add-i : tie.Need-add-i Inv-loop μ-loop
-add-i c =
-    let turn = c .before .before .before .before .before .before .before in
-    let start = turn .before .before .before .before .before .before .before .before in
-    record { fits = omega (arith, turn .loop-test .taken, start .good) }
+slice-aggregate-play-span : tie.Need-slice-aggregate-play-span Inv-loop μ-loop
+slice-aggregate-play-span c = sym (c .before .before .loop .inv .2)
+
+slice-aggregate-play-span-2 : tie.Need-slice-aggregate-play-span-2 Inv-loop μ-loop
+slice-aggregate-play-span-2 c = sym (c .before .before .before .loop .inv .3)
+
+play-span-requires : tie.Need-play-span-requires Inv-loop μ-loop
+play-span-requires c κs =
+    let turn = c .before .before .before in
+    let l = turn .before .loop in
+    let start = turn .before .before .before .before .before .before .before .before .before .before .before in
+    let a = start .args in (
+      between-standing (a .file .now) (a .c) (start .pre .0) (l .today) (l .list) (a .places) (l .opens) (l .reserves) (l .helds) (l .inv .0 .pictured) (l .table) (l .inv .1),
+      omega (arith, l .inv .3),
+      record { entries = omega arith; some = turn .loop-test .taken; placed = l .inv .0 .placed },
+    )
 
 loop-less : tie.Need-loop-less Inv-loop μ-loop
-loop-less c = search needs
+loop-less c = let turn = c .before .before .before .before .before .before .before .before .before .before in omega (arith, c .if1 .taken, turn .loop-test .taken)
 
 loop-again : tie.Need-loop-again Inv-loop μ-loop
 loop-again c =
-    let called = c .before .before .before .before in
-    let turn = called .before .before .before in
+    let span = c .before .before .before .before .before .before in
+    let turn = span .before .before .before .before in
     let l = turn .before .loop in
-    let start = turn .before .before .before .before .before .before .before .before in
-    let a = start .args in
-    let s = rw (called .before .before .entry-at .ensures) at (called .try-play .ensures) in
-    going-next (a .file .now) (a .day) (a .rows) (a .places) (a .journal .now) (a .log .now) (a .opens .now) (a .reserves .now) (a .helds .now) _
-    (l .log) (l .opens) (l .reserves) (l .helds) (l .today) (l .list) (l .at) (l .i) (l .inv)
-    (turn .loop-test .taken) (asStep (called .try-play .result) (l .list)) (called .try-play .last .1 .1 .1 .1 .1 .1 .0) (l .opens) (l .reserves) (l .helds)
-    (s .took (c .before .if1 .taken) (l .opens) (l .reserves) (l .helds)) refl refl refl
+    let a = turn .before .before .before .before .before .before .before .before .before .before .before .args in
+    let is = span .play-span .ensures .same in (
+      span .play-span .ensures .goes (a .day) (a .rows) (a .places) (a .log .now) (a .opens .now) (a .reserves .now) (a .helds .now)
+          (l .opens) (l .reserves) (l .helds) (l .list) (l .inv .1) (l .inv .0),
+      λ e. (rw is (l .inv .1 e .0), omega (arith, is, l .inv .1 e .1)),
+      l .inv .2,
+      span .play-span .kept .1 .1 .1 .1 .0 ∙ l .inv .3,
+    )
+
+entry-at-requires : tie.Need-entry-at-requires Inv-loop μ-loop
+entry-at-requires c κs = let turn = c .before .before .before .before .before .before .before .before .before .before in omega (arith, turn .loop-test .taken)
 
 step-requires : tie.Need-step-requires Inv-loop μ-loop
 step-requires c κs =
-    let tried = c .before .before .before .before .before .before .before in
-    let turn = tried .before .before .before in
+    let span = c .before .before .before .before .before .before .before .before .before .before .before in
+    let turn = span .before .before .before .before in
     let l = turn .before .loop in
-    let start = turn .before .before .before .before .before .before .before .before in
+    let start = turn .before .before .before .before .before .before .before .before .before .before .before in
     let a = start .args in
-    let same = tried .try-play .ensures .kept (c .before .before .before .before .if1 .left) in (
-      omega (arith, ap length same, l .inv .placed),
-      start .pre .0,
-      l .inv .pictured,
-    )
+    let here = span .play-span .ensures .goes (a .day) (a .rows) (a .places) (a .log .now) (a .opens .now) (a .reserves .now) (a .helds .now)
+    (l .opens) (l .reserves) (l .helds) (l .list) (l .inv .1) (l .inv .0) in
+    (here .placed, start .pre .0, here .pictured)
 
 same-length : tie.Need-same-length Inv-loop μ-loop
 same-length c =
     let called = c .before .before .before .before .before .before .before .before .before .before in
-    let tried = called .before .before .before .before .before .before .before .before in
-    let l = tried .before .before .before .before .loop in
-    called .step .kept .1 .1 .1 .1 .1 .1 .0 ∙ tried .try-play .kept .1 .1 .1 .1 .1 .1 .0 ∙ l .inv .long
+    called .step .kept .1 .1 .1 .1 .1 .1 .0 ∙ called .before .before .before .before .before .before .before .before .before .before .before .before .play-span .kept .1 .1 .1 .1 .1 .1 .1 .1 .0 ∙ called .before .before .before .before .before .before .before .before .before .before .before .before .before .before .before .before .before .loop .inv .0 .long
 
 same-length-2 : tie.Need-same-length-2 Inv-loop μ-loop
-same-length-2 c =
-    let called = c .before .before .before .before .before .before .before .before .before .before in
-    let tried = called .before .before .before .before .before .before .before .before in
-    let l = tried .before .before .before .before .loop in
-    called .step .kept .1 .1 .1 .1 .1 .1 .1 .1 .0 ∙ l .inv .opensLong
+same-length-2 c = let called = c .before .before .before .before .before .before .before .before .before .before in called .step .kept .1 .1 .1 .1 .1 .1 .1 .1 .0 ∙ called .before .before .before .before .before .before .before .before .before .before .before .before .before .before .before .before .before .loop .inv .0 .opensLong
 
 same-length-3 : tie.Need-same-length-3 Inv-loop μ-loop
-same-length-3 c =
-    let called = c .before .before .before .before .before .before .before .before .before .before in
-    let tried = called .before .before .before .before .before .before .before .before in
-    let l = tried .before .before .before .before .loop in
-    called .step .kept .1 .1 .1 .1 .1 .1 .1 .1 .1 .0 ∙ l .inv .reservesLong
+same-length-3 c = let called = c .before .before .before .before .before .before .before .before .before .before in called .step .kept .1 .1 .1 .1 .1 .1 .1 .1 .1 .0 ∙ called .before .before .before .before .before .before .before .before .before .before .before .before .before .before .before .before .before .loop .inv .0 .reservesLong
 
 same-length-4 : tie.Need-same-length-4 Inv-loop μ-loop
-same-length-4 c =
-    let called = c .before .before .before .before .before .before .before .before .before .before in
-    let tried = called .before .before .before .before .before .before .before .before in
-    let l = tried .before .before .before .before .loop in
-    called .step .kept .1 .1 .1 .1 .1 .1 .1 .1 .1 .1 .0 ∙ l .inv .heldsLong
+same-length-4 c = let called = c .before .before .before .before .before .before .before .before .before .before in called .step .kept .1 .1 .1 .1 .1 .1 .1 .1 .1 .1 .0 ∙ called .before .before .before .before .before .before .before .before .before .before .before .before .before .before .before .before .before .loop .inv .0 .heldsLong
 
 returns : tie.Need-returns Inv-loop μ-loop
 returns c =
     let called = c .before .before .before .before .before .before .before .before .before .before in
-    let tried = called .before .before .before .before .before .before .before .before in
-    let turn = tried .before .before .before in
+    let span = called .before .before .before .before .before .before .before .before .before .before .before .before in
+    let turn = called .before .before .before .before .before .before .before .before .before .before .before .before .before .before .before .before in
     let l = turn .before .loop in
-    let start = turn .before .before .before .before .before .before .before .before in
+    let start = turn .before .before .before .before .before .before .before .before .before .before .before in
     let a = start .args in
-    let same = tried .try-play .ensures .kept (called .before .before .before .before .before .if1 .left) in
-    let s = rw same at (rw (tried .before .before .entry-at .ensures) at (called .step .ensures)) in
+    let is : span .play-span .result .entry ≡ l .i = omega (arith, called .before .before .before .before .before .before .if1 .left, span .play-span .ensures .more) in
+    let here = rw is at (span .play-span .ensures .goes (a .day) (a .rows) (a .places) (a .log .now) (a .opens .now) (a .reserves .now) (a .helds .now)
+    (l .opens) (l .reserves) (l .helds) (l .list) (l .inv .1) (l .inv .0)) in
+    let log = span .play-span .last .1 .1 .1 .1 .1 .1 .1 .1 .0 in
     let last = called .step .last .1 .1 .1 .1 .1 .1 in
+    let stepped = rw (called .before .before .before .before .before .entry-at .ensures) at (called .step .ensures) in
     going-full (a .file .now) (a .day) (a .rows) (a .places) (a .journal .now) (a .log .now) (a .opens .now) (a .reserves .now) (a .helds .now) _
-    (l .log) (l .opens) (l .reserves) (l .helds) (l .today) (l .list) (l .at) (l .i) (l .inv)
-    (turn .loop-test .taken) (called .step .result) (last .0) (last .1 .1 .0) (last .1 .1 .1 .0) (last .1 .1 .1 .1 .0) (s .kept (not-true _ (c .if2 .taken)))
+    log (l .opens) (l .reserves) (l .helds) (span .play-span .result .day) (l .list) (span .play-span .result .next) (l .i) here
+    (turn .loop-test .taken) (called .step .result) (last .0) (last .1 .1 .0) (last .1 .1 .1 .0) (last .1 .1 .1 .1 .0) (stepped .kept (not-true _ (c .if2 .taken)))
 
-add-i-2 : tie.Need-add-i-2 Inv-loop μ-loop
-add-i-2 c =
-    let turn = c .before .before .before .before .before .before .before .before .before .before .before .before .before .before .before .before .before .before .before .before .before .before .before in
-    let start = turn .before .before .before .before .before .before .before .before in
-    record { fits = omega (arith, turn .loop-test .taken, start .good) }
+slice-aggregate-keep-table-2 : tie.Need-slice-aggregate-keep-table-2 Inv-loop μ-loop
+slice-aggregate-keep-table-2 c = sym (c .before .before .before .before .before .before .before .before .before .before .before .before .before .before .before .before .before .before .before .before .before .before .before .before .before .before .before .before .before .before .loop .inv .2)
+
+keep-table-requires-2 : tie.Need-keep-table-requires-2 Inv-loop μ-loop
+keep-table-requires-2 c κs =
+    let called = c .before .before .before .before .before .before .before .before .before .before .before .before .before in
+    let span = called .before .before .before .before .before .before .before .before .before .before .before .before in
+    let turn = called .before .before .before .before .before .before .before .before .before .before .before .before .before .before .before .before in
+    let l = turn .before .loop in
+    let start = turn .before .before .before .before .before .before .before .before .before .before .before in
+    let a = start .args in
+    let is : span .play-span .result .entry ≡ l .i = omega (arith, called .before .before .before .before .before .before .if1 .left, span .play-span .ensures .more) in
+    let here = rw is at (span .play-span .ensures .goes (a .day) (a .rows) (a .places) (a .log .now) (a .opens .now) (a .reserves .now) (a .helds .now)
+    (l .opens) (l .reserves) (l .helds) (l .list) (l .inv .1) (l .inv .0)) in
+    let log = span .play-span .last .1 .1 .1 .1 .1 .1 .1 .1 .0 in
+    let last = called .step .last .1 .1 .1 .1 .1 .1 in
+    let stepped = rw (called .before .before .before .before .before .entry-at .ensures) at (called .step .ensures) in
+    let kept = called .step .kept .1 .1 .1 .1 .1 .1 .1 .1 in
+    let next =
+    going-next (a .file .now) (a .day) (a .rows) (a .places) (a .journal .now) (a .log .now) (a .opens .now) (a .reserves .now) (a .helds .now) _
+    log (l .opens) (l .reserves) (l .helds) (span .play-span .result .day) (l .list) (span .play-span .result .next) (l .i) here
+    (turn .loop-test .taken) (called .step .result) (last .0) (last .1 .1 .0) (last .1 .1 .1 .0) (last .1 .1 .1 .1 .0) (stepped .took (not-false _ (c .before .before .before .if2 .left)))
+    (kept .0) (kept .1 .0) (kept .1 .1 .0) in
+    let after = called .step .result in
+    (between-ready (a .file .now) (a .c) (start .pre .0) (after .day) (after .rows) (a .places) (last .1 .1 .0) (last .1 .1 .1 .0) (last .1 .1 .1 .1 .0) (next .pictured), omega (arith, l .inv .2))
+
+add-i : tie.Need-add-i Inv-loop μ-loop
+add-i c = let turn = c .before .before .before .before .before .before .before .before .before .before .before .before .before .before .before .before .before .before .before .before .before .before .before .before .before .before .before .before .before .before .before in record { fits = omega (arith, turn .loop-test .taken, turn .before .before .before .before .before .before .before .before .before .before .before .good) }
 
 loop-less-2 : tie.Need-loop-less-2 Inv-loop μ-loop
-loop-less-2 c = let turn = c .before .before .before .before .before .before .before .before .before .before .before .before .before .before .before .before .before .before .before .before .before .before .before in omega (arith, turn .loop-test .taken)
+loop-less-2 c = let turn = c .before .before .before .before .before .before .before .before .before .before .before .before .before .before .before .before .before .before .before .before .before .before .before .before .before .before .before .before .before .before .before in omega (arith, turn .loop-test .taken)
 
 loop-again-2 : tie.Need-loop-again-2 Inv-loop μ-loop
 loop-again-2 c =
-    let called = c .before .before .before .before .before .before .before .before .before .before .before .before in
-    let tried = called .before .before .before .before .before .before .before .before in
-    let turn = tried .before .before .before in
+    let called = c .before .before .before .before .before .before .before .before .before .before .before .before .before .before .before in
+    let span = called .before .before .before .before .before .before .before .before .before .before .before .before in
+    let turn = called .before .before .before .before .before .before .before .before .before .before .before .before .before .before .before .before in
     let l = turn .before .loop in
-    let start = turn .before .before .before .before .before .before .before .before in
+    let start = turn .before .before .before .before .before .before .before .before .before .before .before in
     let a = start .args in
-    let same = tried .try-play .ensures .kept (called .before .before .before .before .before .if1 .left) in
-    let s = rw same at (rw (tried .before .before .entry-at .ensures) at (called .step .ensures)) in
+    let is : span .play-span .result .entry ≡ l .i = omega (arith, called .before .before .before .before .before .before .if1 .left, span .play-span .ensures .more) in
+    let here = rw is at (span .play-span .ensures .goes (a .day) (a .rows) (a .places) (a .log .now) (a .opens .now) (a .reserves .now) (a .helds .now)
+    (l .opens) (l .reserves) (l .helds) (l .list) (l .inv .1) (l .inv .0)) in
+    let log = span .play-span .last .1 .1 .1 .1 .1 .1 .1 .1 .0 in
     let last = called .step .last .1 .1 .1 .1 .1 .1 in
+    let stepped = rw (called .before .before .before .before .before .entry-at .ensures) at (called .step .ensures) in
     let kept = called .step .kept .1 .1 .1 .1 .1 .1 .1 .1 in
+    let next =
     going-next (a .file .now) (a .day) (a .rows) (a .places) (a .journal .now) (a .log .now) (a .opens .now) (a .reserves .now) (a .helds .now) _
-    (l .log) (l .opens) (l .reserves) (l .helds) (l .today) (l .list) (l .at) (l .i) (l .inv)
-    (turn .loop-test .taken) (called .step .result) (last .0) (last .1 .1 .0) (last .1 .1 .1 .0) (last .1 .1 .1 .1 .0) (s .took (not-false _ (c .before .before .if2 .left)))
-    (kept .0) (kept .1 .0) (kept .1 .1 .0)
+    log (l .opens) (l .reserves) (l .helds) (span .play-span .result .day) (l .list) (span .play-span .result .next) (l .i) here
+    (turn .loop-test .taken) (called .step .result) (last .0) (last .1 .1 .0) (last .1 .1 .1 .0) (last .1 .1 .1 .1 .0) (stepped .took (not-false _ (c .before .before .before .before .before .if2 .left)))
+    (kept .0) (kept .1 .0) (kept .1 .1 .0) in
+    let after = called .step .result in (
+      next,
+      between-tabled (a .file .now) (a .c) (start .pre .0) (after .day) (after .rows) (a .places) (last .1 .1 .0) (last .1 .1 .1 .0) (last .1 .1 .1 .1 .0) (next .pictured) _ (c .before .keep-table2 .ensures .0),
+      c .before .keep-table2 .kept .1 .1 .1 .1 .0 ∙ l .inv .2,
+      span .play-span .kept .1 .1 .1 .1 .0 ∙ l .inv .3,
+    )
 
 same-length-5 : tie.Need-same-length-5 Inv-loop μ-loop
 same-length-5 c = search needs
@@ -162,9 +198,9 @@ same-length-8 c = search needs
 returns-2 : tie.Need-returns-2 Inv-loop μ-loop
 returns-2 c =
     let l = c .before .loop in
-    let a = c .before .before .before .before .before .before .before .before .args in
+    let a = c .before .before .before .before .before .before .before .before .before .before .before .args in
     going-end (a .file .now) (a .day) (a .rows) (a .places) (a .journal .now) (a .log .now) (a .opens .now) (a .reserves .now) (a .helds .now) _
-    (l .log) (l .opens) (l .reserves) (l .helds) (l .today) (l .list) (l .at) (l .i) (l .inv) (c .loop-test .left)
+    (l .log) (l .opens) (l .reserves) (l .helds) (l .today) (l .list) (l .at) (l .i) (l .inv .0) (c .loop-test .left)
 
 pub run-spec : {M : Type 1} → statement M
 run-spec =
@@ -172,19 +208,24 @@ run-spec =
     (tie.spec
     Inv-loop
     μ-loop
+    slice-aggregate-keep-table
+    keep-table-requires
     loop-holds
-    entry-at-requires
-    try-play-requires
-    add-i
+    slice-aggregate-play-span
+    slice-aggregate-play-span-2
+    play-span-requires
     loop-less
     loop-again
+    entry-at-requires
     step-requires
     same-length
     same-length-2
     same-length-3
     same-length-4
     returns
-    add-i-2
+    slice-aggregate-keep-table-2
+    keep-table-requires-2
+    add-i
     loop-less-2
     loop-again-2
     same-length-5

@@ -1,0 +1,204 @@
+-- PLAYs one after the other: a round that is written, and a run that goes on. Assumes nothing.
+use mathlib.Core.Path.{_≡_, refl, sym, ap, ap₂, _∙_}
+use mathlib.Core.Bool.{true, false, true≢false}
+use mathlib.Core.List.{List, _++_}
+use Prim.Native.Nat.{ℕ, _+_, _-_, _*_, _/_, _≤_, _<_}
+use native.Mathlib.Omega.{arith}
+use lib.ListN.{length, take}
+use lib.Count.{ones}
+use borrow.Author.Tests.{lt-ltb, le-leb}
+use Rattle.laws.specs.Questions.{refusal}
+use Rattle.films.specs.Questions.{verdict}
+use Rattle.films.specs.Catalogue.{catalogueOf, catalogue-verdict}
+use Rattle.films.specs.declared.types.Catalogue.{Catalogue}
+use Rattle.model.specs.Report.{linesOf}
+use Rattle.model.specs.Code.{stateOf}
+use Rattle.model.specs.declared.Booking.{Booking}
+use Rattle.model.specs.declared.Day.{Day}
+use Rattle.model.specs.declared.Line.{Line}
+use Rattle.model.specs.declared.Answer.the-variants.{Played}
+use Rattle.questions.specs.Given.{settingAt}
+use Rattle.questions.specs.Numbers.{standingAsks}
+use Rattle.playing.specs.Contract.{playedAs}
+use Rattle.playing.specs.Lines.{padded}
+use Rattle.playing.specs.LineLaws.{take-padded}
+use Rattle.playing.specs.Ready.{Ready}
+use Rattle.playing.specs.Laws.{ownAsks, own-after, standing-ready, plays-accepted}
+use Rattle.player.specs.Table.{Tabled}
+use Rattle.player.specs.Words.{linesWords, Wrote}
+use Rattle.player.specs.Round.{OfDay, Opens, Reports}
+use Rattle.player.specs.declared.report.Told.{Told}
+use Rattle.replay.specs.Log.{answerWords}
+use Rattle.replay.specs.Writing.{wrote-under, lines-length}
+use Rattle.replay.specs.StepLaws.{play-whole, tries-none, tries-step}
+use Rattle.replay.specs.DeskRun.{asStep}
+use Rattle.replay.specs.LoopLaws.{Going, going-next}
+use Rattle.replay.specs.Pictured.{Pictured, pictured-between, pictured-there, between-plays}
+use Rattle.replay.specs.Journal.{entryAt}
+use Rattle.replay.specs.Rounds.{later, StandingOf, Prepared, Tried, SpanAsks, TabledFor, SpanGives, Spanning}
+use Rattle.replay.specs.declared.journal.Entry.{Entry}
+use Rattle.replay.specs.declared.journal.Entry.the-variants.{Play}
+use Rattle.replay.specs.declared.step.PlayStep.{PlayStep}
+
+-- nothing is done
+pub tried-none : (f : List ℕ) (day : Day) (table : List ℕ) (e : Entry) (old : List ℕ) (at : ℕ) (r : PlayStep) (new : List ℕ)
+    → r .done ≡ false → new ≡ old → Tried f day table e old at r new
+tried-none f day table e old at r new none same =
+    record {
+      tries = λ c rows places of asks. tries-none (settingAt f day) day rows places e old at r new none same;
+      earlier = λ is. absurd (true≢false (sym is ∙ none));
+      after = λ is. absurd (true≢false (sym is ∙ none));
+      placed = λ is. absurd (true≢false (sym is ∙ none));
+      kept = λ u. same;
+    }
+
+-- the day one round later has the same bookings
+pub of-later : (f : List ℕ) (c : Catalogue) (day : Day) (rows : List Booking) (table : List ℕ) → day .now < day .rounds
+    → OfDay f c day rows (day .count) table → OfDay f c (later day) rows (day .count) table
+of-later f c day rows table h of =
+    let ready = of .ready in
+    record {
+      ready =
+          record {
+            made = ready .made;
+            accepted = ready .accepted;
+            few = ready .few;
+            short = ready .short;
+            today = omega arith;
+            sound = ready .sound;
+          };
+      there = of .there;
+      number = refl;
+      tabled = of .tabled;
+    }
+
+-- 23 and 11 say no to none
+own-none : (now rounds films room : ℕ) → now < rounds → films ≤ room → refusal (ownAsks now rounds films room) ≡ 0
+unfolding ownAsks
+own-none now rounds films room h k = rw (lt-ltb now rounds h, le-leb films room k)
+
+-- a round whose lines were written after the place of its answer, and then the answer
+module _ (f : List ℕ) (day : Day) (table : List ℕ) (films : ℕ) (opens : Opens table (day .count) (day .now) films) (earlier : day .now < day .rounds)
+    (old : List ℕ) (at : ℕ) (mid : List ℕ) (told : Told) (new : List ℕ) (m : ℕ) (size : at + 3 + 4 * films ≤ length old)
+    (reports : Reports f table (day .count) (day .now) old (at + 3) mid told) (wrote : Wrote mid at (answerWords (Played films (told .cabs))) new m) where
+  abbrev left : PlayStep
+  left = record { done = true; next = told .next; day = later day }
+
+  module _ (c : Catalogue) (rows : List Booking) (of : OfDay f c day rows (day .count) table) where
+    abbrev ls : List Line
+    ls = linesOf (settingAt f day) (day .now) (take (day .count) rows)
+
+    number : films ≡ length ls
+    number = opens .lines f c day rows of
+
+    round-whole : Wrote old at (answerWords (Played films (told .cabs)) ++ linesWords ls) new (told .next)
+    round-whole =
+        wrote-under old at (answerWords (Played films (told .cabs))) (linesWords ls) mid (told .next) new m
+        (omega (arith, lines-length ls, number)) (reports .lines c day rows of) wrote
+
+    pub round-placed : told .next ≤ length old
+    round-placed = omega (arith, reports .lines c day rows of .place, lines-length ls, number)
+
+  pub round-done : (room : ℕ) → films ≤ room → (c : Catalogue) (list : List Booking) → OfDay f c day list (day .count) table
+      → length new ≡ length old → Tried f day table (Play room) old at left new
+  round-done room fits c₀ list of₀ long =
+      record {
+        tries =
+            λ c rows places of asks.
+            let films-are = number c rows of in
+            let none = own-after f day rows places room films (sym asks) films-are ∙ own-none (day .now) (day .rounds) films room earlier fits in
+            let lines = padded (ls c rows of) in
+            let plays = plays-accepted f day rows places room films (told .cabs) lines none films-are refl (reports .cabs c day rows of) in
+            let front : take films lines ≡ ls c rows of = ap (λ (k : ℕ). take k lines) films-are ∙ take-padded (ls c rows of) in
+            tries-step (settingAt f day) day rows places (Play room) old at left new
+            (λ o v h.
+            play-whole f day rows places room (playedAs films (told .cabs) day lines) plays o v h old at (omega arith) (asStep left rows) new
+            (omega arith) refl refl refl (rw front (round-whole c rows of)));
+        earlier = λ is. earlier;
+        after = λ is. refl;
+        placed = λ is. omega (arith, round-placed c₀ list of₀, long);
+        kept = λ is. absurd (true≢false is);
+      }
+
+-- ---- a span
+
+-- the bookings of a day between two entries are those of the table
+pub standing-between : (f : List ℕ) (day : Day) (rows : List Booking) (places : ℕ) (table : List ℕ)
+    → refusal (standingAsks f day rows places (day .rounds) (day .rounds) (day .rounds)) ≡ 0 → day .count ≤ length rows
+    → Tabled (catalogueOf f) (take (day .count) rows) table → OfDay f (catalogueOf f) day rows (day .count) table
+standing-between f day rows places table asks there tabled =
+    record { ready = standing-ready f day rows places 0 (catalogueOf f) refl (sym asks); there = there; number = refl; tabled = tabled }
+
+module _ (f : List ℕ) (day : Day) (table ahead : List ℕ) (from to : ℕ) (journal : List ℕ) (first count : ℕ) (old : List ℕ) (at : ℕ) where
+  -- no entry is done
+  pub gives-none : SpanGives f day table journal first count old at (record { entry = first; next = at; day = day }) old
+  gives-none = record { more = omega arith; same = refl; goes = λ day₀ rows₀ places log₀ o₀ r₀ h₀ o r h rows tabled g. g }
+
+  pub spanning-first : Prepared f day table ahead from to → SpanAsks journal first count old at
+      → Spanning f day table ahead from to journal first count old at old day at first
+  spanning-first prepared asks = record { within = omega (arith, asks .some); prepared = prepared; long = refl; placed = asks .placed; gives = gives-none }
+
+  -- one more is done
+  pub spanning-next : (new : List ℕ) (today : Day) (place i : ℕ) → Spanning f day table ahead from to journal first count old at new today place i
+      → i < count → (r : PlayStep) (new′ : List ℕ) → Tried f today table (entryAt journal i) new place r new′ → r .done ≡ true
+      → length new′ ≡ length new
+      → Spanning f day table ahead from to journal first count old at new′ (r .day) (r .next) (i + 1)
+  spanning-next new today place i g h r new′ tried done long =
+      let standing = g .prepared .standing in
+      let after = tried .after done in
+      let accepted = standing .of .ready .accepted in
+      record {
+        within = omega arith;
+        prepared =
+            rw after
+            (record {
+              standing =
+                  record {
+                    catalogue = standing .catalogue;
+                    list = standing .list;
+                    of = of-later f (standing .catalogue) today (standing .list) table (tried .earlier done) (standing .of);
+                  };
+              held = g .prepared .held;
+              within = g .prepared .within;
+            });
+        long = long ∙ g .long;
+        placed = tried .placed done;
+        gives =
+            record {
+              more = omega (arith, g .gives .more);
+              same = ap (λ (u : Day). u .count) after ∙ g .gives .same;
+              goes =
+                  λ day₀ rows₀ places log₀ o₀ r₀ h₀ o v l rows tabled g₀.
+                  let here = g .gives .goes day₀ rows₀ places log₀ o₀ r₀ h₀ o v l rows tabled g₀ in
+                  let d = stateOf today rows places o v l in
+                  let asks = between-plays f today rows places o v l accepted (pictured-between (settingAt f today) d (here .pictured)) in
+                  let is : today .count ≡ day .count = g .gives .same in
+                  let of = standing-between f today rows places table asks (omega (arith, is, tabled accepted .1)) (rw is (tabled accepted .0)) in
+                  let tries = tried .tries (catalogueOf f) rows places of asks in
+                  going-next f day₀ rows₀ places journal log₀ o₀ r₀ h₀ count new o v l today rows place i here h (asStep r rows) new′ o v l
+                  (tries .took done o v l) refl refl refl;
+            };
+      }
+
+-- ---- the bookings between two entries
+
+module _ (f : List ℕ) (c : Catalogue) (made : c ≡ catalogueOf f) where
+  verdict-is : c .verdict ≡ verdict f
+  verdict-is = ap (λ (x : Catalogue). x .verdict) made ∙ catalogue-verdict f
+
+  module _ (day : Day) (rows : List Booking) (places : ℕ) (o v l : List ℕ) (p : Pictured (settingAt f day) (stateOf day rows places o v l)) where
+    pub between-ready : c .verdict ≡ 0 → Ready f c day rows
+    between-ready e =
+        let asks = between-plays f day rows places o v l (sym verdict-is ∙ e) (pictured-between (settingAt f day) (stateOf day rows places o v l) p) in
+        standing-ready f day rows places 0 c made (sym asks)
+
+    -- the table that was written is theirs
+    pub between-tabled : (table : List ℕ) → (c .verdict ≡ 0 → Tabled c (take (day .count) rows) table) → TabledFor f day rows table
+    between-tabled table w e =
+        (rw made at (w (verdict-is ∙ e)), pictured-there (settingAt f day) (stateOf day rows places o v l) p)
+
+    pub between-standing : (table : List ℕ) → TabledFor f day rows table → c .verdict ≡ 0 → StandingOf f day table
+    between-standing table w e =
+        let accepted = sym verdict-is ∙ e in
+        let asks = between-plays f day rows places o v l accepted (pictured-between (settingAt f day) (stateOf day rows places o v l) p) in
+        record { catalogue = catalogueOf f; list = rows; of = standing-between f day rows places table asks (w accepted .1) (w accepted .0) }

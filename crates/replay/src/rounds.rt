@@ -1,0 +1,263 @@
+// PLAYs one after the other, from the table of the day's bookings and what they hold in the rounds ahead.
+use crate::journal::Entry;
+use crate::journal::entry_at;
+use crate::log::ANSWER_WORDS;
+use crate::log::LINE_WORDS;
+use crate::log::write_answer;
+use crate::step::PlayStep;
+use model::Answer;
+use model::Day;
+use player::ahead::AHEAD_ROUNDS;
+use player::ahead::look_ahead;
+use player::report::report;
+use player::table::films_open;
+ghost use mathlib.Core.Path.{_≡_};
+ghost use mathlib.Core.Bool.{false};
+ghost use Prim.Native.Nat.{ℕ, _+_, _*_, _≤_, _<_, min};
+ghost use lib.ListN.{length};
+ghost use Rattle.limits.specs.Bounds.{maxBookings};
+ghost use Rattle.player.specs.Ahead.{aheadRounds};
+ghost use Rattle.player.specs.Round.{Opens, Tellable};
+ghost use Rattle.replay.specs.Rounds.{later, isPlay, StandingOf, Prepared, Tried, SpanAsks, SpanGives};
+ghost use Rattle.replay.specs.declared.journal.Entry.the-variants.{Play};
+
+// The entries of a span that are done: the one after them, the place in the log after their words, and the day.
+pub struct Span {
+    pub entry: usize,
+    pub next: usize,
+    pub day: Day,
+}
+
+// The smaller of two.
+fn smaller(a: usize, b: usize) -> usize
+    ensures { λ r. ⌜ r ≡ min a b ⌝ }
+{
+    if a < b { a } else { b }
+}
+
+// Nothing done.
+fn not_played(day: Day, at: usize) -> PlayStep
+    ensures { λ r. ⌜ r .done ≡ false ⌝ }
+{
+    PlayStep {
+        done: false,
+        next: at,
+        day,
+    }
+}
+
+// The day one round later.
+fn next_round(day: Day) -> Day
+    requires { ⌜ day .now < day .rounds ⌝ }
+    ensures { λ r. ⌜ r ≡ later day ⌝ }
+{
+    Day {
+        rounds: day.rounds,
+        disk: day.disk,
+        memory: day.memory,
+        now: day.now + 1,
+        count: day.count,
+    }
+}
+
+// PLAY of a round in which `films` films are open, where the report takes as many lines and the log their words.
+fn write_round(
+    file: &[u8],
+    day: Day,
+    films: usize,
+    table: &[u64],
+    ahead: &[u64],
+    from: usize,
+    log: &mut [u64],
+    at: usize,
+) -> PlayStep
+    requires { ⌜ (day .now < day .rounds) × StandingOf (now file) day (now table) × Opens (now table) (day .count) (day .now) films × Tellable (now file) (now table) (day .count) (now ahead) from (day .now) (now log) (at + 3) ⌝ }
+    ensures { λ r. ⌜ ((room : ℕ) → films ≤ room → Tried (now (file .entry)) day (now (table .entry)) (Play room) (now (log .entry)) at r (now (log .exit))) ⌝ }
+{
+    let told = report(
+        file,
+        table,
+        day.count as usize,
+        ahead,
+        from,
+        day.now as usize,
+        log,
+        at + ANSWER_WORDS,
+    );
+    write_answer(log, at, Answer::Played(films as u64, told.cabs));
+    let after = next_round(day);
+    PlayStep {
+        done: true,
+        next: told.next,
+        day: after,
+    }
+}
+
+// PLAY with a report of `room` lines, where `ahead` has what the bookings hold in the rounds from `from` to `to` - 1. Nothing is done
+// in another round, or where the report or the log does not take the lines.
+fn play_ahead(
+    file: &[u8],
+    day: Day,
+    room: u64,
+    table: &[u64],
+    ahead: &[u64],
+    from: usize,
+    to: usize,
+    log: &mut [u64],
+    at: usize,
+) -> PlayStep
+    requires { ⌜ (at + 3 ≤ length (now log)) × Prepared (now file) day (now table) (now ahead) from to ⌝ }
+    ensures { λ r. ⌜ Tried (now (file .entry)) day (now (table .entry)) (Play room) (now (log .entry)) at r (now (log .exit)) ⌝ }
+{
+    let t = day.now as usize;
+    if t < from {
+        return not_played(day, at);
+    }
+    if to <= t {
+        return not_played(day, at);
+    }
+    let films = films_open(table, day.count as usize, t);
+    if room < films as u64 {
+        return not_played(day, at);
+    }
+    if (log.len() - at - ANSWER_WORDS) / LINE_WORDS < films {
+        return not_played(day, at);
+    }
+    write_round(file, day, films, table, ahead, from, log, at)
+}
+
+// Carries an entry out and logs it from place `at` on, where it is a PLAY that `play_ahead` does; else nothing is done.
+fn try_play(
+    file: &[u8],
+    day: Day,
+    entry: Entry,
+    table: &[u64],
+    ahead: &[u64],
+    from: usize,
+    to: usize,
+    log: &mut [u64],
+    at: usize,
+) -> PlayStep
+    requires { ⌜ (at ≤ length (now log)) × Prepared (now file) day (now table) (now ahead) from to ⌝ }
+    ensures { λ r. ⌜ Tried (now (file .entry)) day (now (table .entry)) entry (now (log .entry)) at r (now (log .exit)) ⌝ }
+{
+    let left = log.len() - at;
+    if left < ANSWER_WORDS {
+        return not_played(day, at);
+    }
+    match entry {
+        Entry::Play(room) => play_ahead(file, day, room, table, ahead, from, to, log, at),
+        Entry::Book(_) => not_played(day, at),
+        Entry::Drop(_) => not_played(day, at),
+        Entry::Unknown => not_played(day, at),
+    }
+}
+
+// Whether an entry is a PLAY.
+fn is_play(entry: Entry) -> bool
+    ensures { λ r. ⌜ r ≡ isPlay entry ⌝ }
+{
+    match entry {
+        Entry::Play(_) => true,
+        Entry::Book(_) => false,
+        Entry::Drop(_) => false,
+        Entry::Unknown => false,
+    }
+}
+
+// Carries the entries from `first` on out that are PLAYs, as far as what the bookings hold is worked out at once.
+fn play_on(
+    file: &[u8],
+    day: Day,
+    table: &[u64],
+    ahead: &[u64],
+    from: usize,
+    to: usize,
+    journal: &[u64],
+    first: usize,
+    count: usize,
+    log: &mut [u64],
+    at: usize,
+) -> Span
+    requires { ⌜ Prepared (now file) day (now table) (now ahead) from to × SpanAsks (now journal) first count (now log) at ⌝ }
+    ensures { λ r. ⌜ SpanGives (now (file .entry)) day (now (table .entry)) (now (journal .entry)) first count (now (log .entry)) at r (now (log .exit)) ⌝ }
+{
+    let mut today = day;
+    let mut place = at;
+    let mut i = first;
+    while i < count {
+        let played = try_play(
+            file,
+            today,
+            entry_at(journal, i),
+            table,
+            ahead,
+            from,
+            to,
+            log,
+            place,
+        );
+        if !played.done {
+            return Span {
+                entry: i,
+                next: place,
+                day: today,
+            };
+        }
+        let after = played.day;
+        today = after;
+        place = played.next;
+        i += 1;
+    }
+    Span {
+        entry: i,
+        next: place,
+        day: today,
+    }
+}
+
+// Carries the entries from `first` on out that are PLAYs and have room, for at most as many rounds as is looked ahead; none where the
+// film file is refused, which `verdict` says. The table is that of the day's bookings.
+pub fn play_span(
+    file: &[u8],
+    verdict: u32,
+    day: Day,
+    table: &[u64],
+    ahead: &mut [u64],
+    journal: &[u64],
+    first: usize,
+    count: usize,
+    log: &mut [u64],
+    at: usize,
+) -> Span
+    requires { ⌜ (verdict ≡ 0 → StandingOf (now file) day (now table)) × (aheadRounds * maxBookings ≤ length (now ahead)) × SpanAsks (now journal) first count (now log) at ⌝ }
+    ensures { λ r. ⌜ SpanGives (now (file .entry)) day (now (table .entry)) (now (journal .entry)) first count (now (log .entry)) at r (now (log .exit)) ⌝ }
+{
+    let none = Span {
+        entry: first,
+        next: at,
+        day,
+    };
+    if verdict != 0 {
+        return none;
+    }
+    if !is_play(entry_at(journal, first)) {
+        return none;
+    }
+    let from = day.now as usize;
+    let to = smaller(from + AHEAD_ROUNDS, day.rounds as usize);
+    look_ahead(file, table, day.count as usize, ahead, from, to);
+    play_on(
+        file,
+        day,
+        table,
+        ahead,
+        from,
+        to,
+        journal,
+        first,
+        count,
+        log,
+        at,
+    )
+}
