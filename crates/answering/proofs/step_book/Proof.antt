@@ -1,0 +1,59 @@
+-- `answering::step_book` meets its contract: it is the model's booking, whose first questions pass. Assumes nothing.
+use Rattle.answering.specs.Contract.{sessionAt}
+use Rattle.answering.specs.Kept.{ready-asks}
+use Rattle.answering.specs.Answering.{book-step}
+use borrow.Author.Needs.{needs}
+use Rattle.answering.proofs.step_book.Statement.{statement}
+use Rattle.answering.proofs.step_book.Tie as tie
+
+book-standing-requires : tie.Need-book-standing-requires
+book-standing-requires c κs =
+    let start = c .before .before .before .before .before .before .before .before in
+    let a = start .args in
+    let s = sessionAt (a .day) (a .rows) (a .opens .now) (a .reserves .now) (a .helds .now) in
+    let ready = start .pre .2 in
+    (ready .catalogue, ready-asks (a .file .now) (a .c) s ready (start .pre .1))
+
+write-first-requires : tie.Need-write-first-requires
+write-first-requires c κs = search needs
+
+same-length : tie.Need-same-length
+same-length c = search needs
+
+same-length-2 : tie.Need-same-length-2
+same-length-2 c = search needs
+
+same-length-3 : tie.Need-same-length-3
+same-length-3 c = search needs
+
+same-length-4 : tie.Need-same-length-4
+same-length-4 c = search needs
+
+returns : tie.Need-returns
+returns c =
+    let wrote = c .before .before .write-first in
+    let booked = c .before .before .before .before .before .before .before .before .before .before .before .before .book-standing in
+    let start = c .before .before .before .before .before .before .before .before .before .before .before .before .before .before .before .before .before .before .before .before .before in
+    let a = start .args in
+    book-step (a .file .now) (a .day) (a .rows) (a .opens .now) (a .reserves .now) (a .helds .now) (a .out .now) (start .pre .0) (a .q) (booked .result .answer)
+    (booked .result .day)
+    (booked .result .rows)
+    _
+    _
+    _
+    (booked .ensures)
+    _
+    _
+    (wrote .ensures)
+
+pub step-book-spec : {M : Type 1} → statement M
+step-book-spec =
+    tie.close
+    (tie.spec
+    book-standing-requires
+    write-first-requires
+    same-length
+    same-length-2
+    same-length-3
+    same-length-4
+    returns)
