@@ -2,3 +2,4 @@
 pub mod Contract
 pub mod Kept
 pub mod Answering
+pub mod Sheet
