@@ -9,3 +9,4 @@ pub mod Sound
 pub mod ListSound
 pub mod SheetOf
 pub mod Start
+pub mod Laying

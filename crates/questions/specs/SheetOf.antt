@@ -2,13 +2,15 @@
 -- bytes held". Assumes nothing.
 use mathlib.Core.Path.{_≡_, sym, ap, _∙_}
 use mathlib.Core.List.{List, _++_}
-use Prim.Native.Nat.{ℕ}
-use lib.ListN.{drop}
+use Prim.Native.Nat.{ℕ, _≤_, _<_}
+use native.Mathlib.Omega.{arith}
+use lib.ListN.{length, getD, drop}
 use Rattle.model.specs.Day.{Setting, opened, reserved, held}
 use Rattle.model.specs.Calls.{workedOut}
 use Rattle.model.specs.PlacesLaws.{perRound-same, workedOut-twice}
 use Rattle.model.specs.declared.Booking.{Booking}
 use Rattle.load.specs.declared.stream.Stream.{Stream}
+use Rattle.sheet.specs.Memory.{Agrees}
 use Rattle.sheet.specs.Sheet.{Laid}
 use Rattle.questions.specs.Tied.{AllTied, opened-tied, reserved-tied, held-tied}
 
@@ -21,6 +23,22 @@ pub record SheetOf (S : Setting) (bs : List Booking) (opens₀ reserves₀ helds
 -- three lists are already the sheet of bs
 abbrev pub SheetKept : Setting → List Booking → List ℕ → List ℕ → List ℕ → Type 0
 SheetKept S bs opens reserves helds = SheetOf S bs opens reserves helds opens reserves helds
+
+-- the first T places of a list are what bs hold by round
+pub record HeldKept (S : Setting) (bs : List Booking) (helds : List ℕ) : Type 0 where
+  pub long : S .rounds ≤ length helds
+  pub held-at : (t : ℕ) → t < S .rounds → getD helds t 0 ≡ held S t bs
+
+-- by their streams
+pub agrees-kept : (S : Setting) (f : List ℕ) (bs : List Booking) (xs : List Stream) → AllTied S f bs xs → (l : List ℕ)
+    → Agrees f xs l 0 (S .rounds) → HeldKept S bs l
+agrees-kept S f bs xs tied l g =
+    record { long = g .long; held-at = λ t u. g .held t (omega arith) u ∙ sym (held-tied S f bs xs tied t) }
+
+pub kept-agrees : (S : Setting) (f : List ℕ) (bs : List Booking) (xs : List Stream) → AllTied S f bs xs → (l : List ℕ)
+    → HeldKept S bs l → Agrees f xs l 0 (S .rounds)
+kept-agrees S f bs xs tied l g =
+    record { long = g .long; held = λ t h u. g .held-at t u ∙ held-tied S f bs xs tied t }
 
 worked-same : (T : ℕ) (g h : ℕ → ℕ) (old : List ℕ) → ((t : ℕ) → g t ≡ h t) → workedOut T g old ≡ workedOut T h old
 worked-same T g h old e = ap (λ (l : List ℕ). l ++ drop T old) (perRound-same g h e 0 T)

@@ -9,8 +9,10 @@ use load::stream::Stream;
 use load::stream::streams_of;
 use model::Booking;
 use model::Day;
+use sheet::memory::Checked;
 use sheet::memory::held_within;
 ghost use mathlib.Core.Path.{_≡_};
+ghost use mathlib.Core.Bool.{true};
 ghost use Prim.Native.Nat.{_≤_};
 ghost use lib.ListN.{take};
 ghost use Rattle.limits.specs.Bounds.{maxBookings, maxDay};
@@ -18,11 +20,14 @@ ghost use Rattle.films.specs.Questions.{verdict};
 ghost use Rattle.films.specs.Catalogue.{catalogueOf};
 ghost use Rattle.load.specs.Basic.{Playable, Within, EachOf};
 ghost use Rattle.model.specs.Soundness.{soundList};
+ghost use Rattle.sheet.specs.Memory.{Agrees};
 ghost use Rattle.questions.specs.Sound.{streamsSound};
 ghost use Rattle.questions.specs.Given.{settingAt};
 ghost use Rattle.questions.specs.Numbers.{soundHolds};
+ghost use Rattle.questions.specs.SheetOf.{HeldKept};
 
-// Whether no cab shows two films, every round keeps both limits, and each stream has a schedule.
+// Whether no cab shows two films, every round keeps both limits, and each stream has a schedule; and whether `helds` has what
+// they hold by round.
 fn streams_sound(
     file: &[u8],
     xs: [Stream; MAX_BOOKINGS],
@@ -30,57 +35,87 @@ fn streams_sound(
     rounds: usize,
     disk: u64,
     memory: u64,
-) -> bool
+    helds: &[u64],
+) -> Checked
     requires { ⌜ (count ≤ maxBookings) × EachOf (Playable (now file)) count xs × EachOf (Within rounds) count xs ⌝ }
-    ensures { λ r. ⌜ r ≡ streamsSound (now (file .entry)) rounds disk memory (take count xs) ⌝ }
+    ensures { λ r. ⌜ ((r .kept ≡ streamsSound (now (file .entry)) rounds disk memory (take count xs)) × (r .same ≡ true → Agrees (now (file .entry)) (take count xs) (now (helds .entry)) 0 rounds)) ⌝ }
 {
     if !pairs_clear(xs, count) {
-        return false;
+        return Checked {
+            kept: false,
+            same: false,
+        };
     }
     if !disk_at_starts(xs, count, disk) {
-        return false;
+        return Checked {
+            kept: false,
+            same: false,
+        };
     }
-    held_within(file, xs, count, rounds, memory)
+    held_within(file, xs, count, rounds, memory, helds)
 }
 
-// Is the list of the first `count` bookings sound? The file is accepted, and c is its catalogue.
+// Is the list of the first `count` bookings sound? And has `helds` what they hold by round? The file is accepted, and c is its
+// catalogue.
 pub fn sound_list(
     file: &[u8],
     c: Catalogue,
     day: Day,
     rows: [Booking; MAX_BOOKINGS],
     count: usize,
-) -> bool
+    helds: &[u64],
+) -> Checked
     requires { ⌜ (c ≡ catalogueOf (now file)) × (verdict (now file) ≡ 0) × (count ≤ maxBookings) × (day .rounds ≤ maxDay) ⌝ }
-    ensures { λ r. ⌜ r ≡ soundList (settingAt (now (file .entry)) day) (take count rows) ⌝ }
+    ensures { λ r. ⌜ ((r .kept ≡ soundList (settingAt (now (file .entry)) day) (take count rows)) × (r .same ≡ true → HeldKept (settingAt (now (file .entry)) day) (take count rows) (now (helds .entry)))) ⌝ }
 {
     if !names_differ(rows, count) {
-        return false;
+        return Checked {
+            kept: false,
+            same: false,
+        };
     }
     let xs = streams_of(c, rows, count);
     if !all_basic(xs, count, day.rounds) {
-        return false;
+        return Checked {
+            kept: false,
+            same: false,
+        };
     }
-    streams_sound(file, xs, count, day.rounds as usize, day.disk, day.memory)
+    streams_sound(
+        file,
+        xs,
+        count,
+        day.rounds as usize,
+        day.disk,
+        day.memory,
+        helds,
+    )
 }
 
-// Is the list sound? At most 256 records, within the list's places, and sound.
+// Is the list sound? At most 256 records, within the list's places, and sound. And has `helds` what they hold by round?
 pub fn sound_holds(
     file: &[u8],
     c: Catalogue,
     day: Day,
     rows: [Booking; MAX_BOOKINGS],
     places: u64,
-) -> bool
+    helds: &[u64],
+) -> Checked
     requires { ⌜ (c ≡ catalogueOf (now file)) × (verdict (now file) ≡ 0) × (day .rounds ≤ maxDay) ⌝ }
-    ensures { λ r. ⌜ r ≡ soundHolds (now (file .entry)) day rows places ⌝ }
+    ensures { λ r. ⌜ ((r .kept ≡ soundHolds (now (file .entry)) day rows places) × (r .same ≡ true → HeldKept (settingAt (now (file .entry)) day) (take (day .count) rows) (now (helds .entry)))) ⌝ }
 {
     let count = day.count;
     if (MAX_BOOKINGS as u64) < count {
-        return false;
+        return Checked {
+            kept: false,
+            same: false,
+        };
     }
     if places < count {
-        return false;
+        return Checked {
+            kept: false,
+            same: false,
+        };
     }
-    sound_list(file, c, day, rows, count as usize)
+    sound_list(file, c, day, rows, count as usize, helds)
 }

@@ -4,6 +4,7 @@ pub mod Parts
 pub mod Sheet
 pub mod WindowLaws
 pub mod OpenLaws
+pub mod AgreeLaws
 pub mod FillLaws
 pub mod SheetLaws
 pub mod LaidLaws

@@ -83,3 +83,10 @@ pub record Filled (f : List ℕ) (xs : List Stream) (n : ℕ) (window : List ℕ
 pub record WindowKept (f : List ℕ) (xs : List Stream) (n M w e : ℕ) (carries : List ℕ) (r : Bool) : Type 0 where
   pub kept : memoryKept f M e (take n xs) ≡ r && memoryKept f M w (take n xs)
   pub carried : (i : ℕ) → i < n → getD carries i 0 ≡ carryFrom f w (getD xs i noStream)
+
+-- ---- what is held by round, in a list
+
+-- the places of a list from round e to T - 1 are what the streams hold together
+pub record Agrees (f : List ℕ) (xs : List Stream) (list : List ℕ) (e T : ℕ) : Type 0 where
+  pub long : T ≤ length list
+  pub held : (t : ℕ) → e ≤ t → t < T → getD list t 0 ≡ heldIn f t xs

@@ -112,6 +112,12 @@ module _ (f : List ℕ) (xs : List Stream) (n e r : ℕ) (starts ends : List ℕ
   pub skip-carried : (i : ℕ) → i < n → carryFrom f e (getD xs i noStream) ≡ carryFrom f r (getD xs i noStream)
   skip-carried i h = skip-carry f (getD xs i noStream) r e most (each i h .bounded .some) (apart i h)
 
+  -- nothing is held
+  pub skip-held : (t : ℕ) → r ≤ t → t < e → heldIn f t (take n xs) ≡ 0
+  skip-held t h k =
+      total-none (holdsIn f t) xs n
+      (λ i u. skip-holds f (getD xs i noStream) r e most (each i u .bounded .some) (apart i u) t h k)
+
   -- and every memory limit is kept
   pub skip-kept : (M : ℕ) → memoryKept f M e (take n xs) ≡ memoryKept f M r (take n xs)
   unfolding memoryKept
@@ -119,11 +125,5 @@ module _ (f : List ℕ) (xs : List Stream) (n e r : ℕ) (starts ends : List ℕ
       let m = most in
       let z : e ≡ r + (e - r) = omega arith in
       ap (λ (t : ℕ). below t (λ (s : ℕ). leb (heldIn f s (take n xs)) M)) z
-      ∙ below-skip (λ (s : ℕ). leb (heldIn f s (take n xs)) M) r (e - r) (λ t h k. nothing t h (omega arith))
-    where
-      nothing : (t : ℕ) → r ≤ t → t < e → leb (heldIn f t (take n xs)) M ≡ true
-      nothing t h k =
-          let held : heldIn f t (take n xs) ≡ 0 =
-          total-none (holdsIn f t) xs n
-          (λ i u. skip-holds f (getD xs i noStream) r e most (each i u .bounded .some) (apart i u) t h k) in
-          le-leb (heldIn f t (take n xs)) M (omega arith)
+      ∙ below-skip (λ (s : ℕ). leb (heldIn f s (take n xs)) M) r (e - r)
+      (λ t h k. le-leb (heldIn f t (take n xs)) M (omega (arith, skip-held t h (omega arith))))

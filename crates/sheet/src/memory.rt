@@ -4,18 +4,25 @@ use crate::clear::clear;
 use limits::bounds::MAX_BOOKINGS;
 use load::stream::Stream;
 ghost use mathlib.Core.Path.{_≡_};
-ghost use mathlib.Core.Bool.{_&&_};
-ghost use Prim.Native.Nat.{_-_, _≤_, min, max};
-ghost use lib.ListN.{length, take, replicate};
+ghost use mathlib.Core.Bool.{true, _&&_};
+ghost use Prim.Native.Nat.{ℕ, _+_, _-_, _≤_, _<_, min, max};
+ghost use lib.ListN.{length, getD, take, replicate};
 ghost use lib.Dec.{leb, eqb};
 ghost use Rattle.limits.specs.Bounds.{maxBookings};
 ghost use Rattle.laws.specs.Tests.{all};
 ghost use Rattle.load.specs.Basic.{Bounded, Playable, Within, EachOf};
+ghost use Rattle.load.specs.Stream.{heldIn};
 ghost use Rattle.sheet.specs.Memory.{feasible, memoryKept, Spans, later, openUntil, earlier, openFrom};
-ghost use Rattle.sheet.specs.Memory.{Windowed, Added, Fills, Filled, WindowKept};
+ghost use Rattle.sheet.specs.Memory.{Windowed, Added, Fills, Filled, WindowKept, Agrees};
 
 // rounds in a window, at most
 const WINDOW: usize = 4096;
+
+// Whether the rounds of a day keep the memory limit, and whether a list by round has just what is held in them.
+pub struct Checked {
+    pub kept: bool,
+    pub same: bool,
+}
 
 // The larger of two.
 fn larger(a: usize, b: usize) -> usize
@@ -157,8 +164,50 @@ fn window_within(window: &[u64], n: usize, memory: u64) -> bool
     true
 }
 
-// Whether the rounds from w to e - 1 keep the memory limit, tested in a list of as many places. Turns `carries`, those of the
-// first `count` streams' rounds from e on, into those of their rounds from w on.
+// 0 if two numbers are the same, and 1 if they differ.
+fn differs(a: u64, b: u64) -> u64
+    ensures { λ r. ⌜ (r ≤ 1) × (r ≡ 0 → a ≡ b) ⌝ }
+{
+    if a == b { 0 } else { 1 }
+}
+
+// Whether the n places of a list from w on are the first n of a window; not asked unless `asked`. The differences are counted,
+// so that there is no branch from place to place.
+fn same_places(asked: bool, list: &[u64], w: usize, window: &[u64], n: usize) -> bool
+    requires { ⌜ ((asked ≡ true → w + n ≤ length (now list)) × (n ≤ length (now window))) ⌝ }
+    ensures { λ r. ⌜ (r ≡ true → (asked ≡ true) × ((k : ℕ) → k < n → getD (now (list .entry)) (w + k) 0 ≡ getD (now (window .entry)) k 0)) ⌝ }
+{
+    if !asked {
+        return false;
+    }
+    let mut count: u64 = 0;
+    let mut i = 0;
+    while i < n {
+        count = count + differs(list[w + i], window[i]);
+        i += 1;
+    }
+    count == 0
+}
+
+// Whether the places of a list from a to e - 1 are 0; not asked unless `asked`.
+fn empty_places(asked: bool, list: &[u64], a: usize, e: usize) -> bool
+    requires { ⌜ (asked ≡ true → e ≤ length (now list)) ⌝ }
+    ensures { λ r. ⌜ (r ≡ true → (asked ≡ true) × ((t : ℕ) → a ≤ t → t < e → getD (now (list .entry)) t 0 ≡ 0)) ⌝ }
+{
+    if !asked {
+        return false;
+    }
+    let mut count: u64 = 0;
+    let mut t = a;
+    while t < e {
+        count = count + differs(list[t], 0);
+        t += 1;
+    }
+    count == 0
+}
+
+// Whether the rounds from w to e - 1 keep the memory limit, tested in a list of as many places, and whether `helds` has what
+// is held in them. Turns `carries`, those of the first `count` streams' rounds from e on, into those of their rounds from w on.
 fn window_kept(
     file: &[u8],
     xs: [Stream; MAX_BOOKINGS],
@@ -168,14 +217,18 @@ fn window_kept(
     e: usize,
     carries: &mut [u64],
     memory: u64,
-) -> bool
-    requires { ⌜ (length (now window) ≡ e - w) × Fills (now file) xs count (replicate (e - w) 0) w e (now carries) ⌝ }
-    ensures { λ r. ⌜ WindowKept (now (file .entry)) xs count memory w e (now (carries .exit)) r ⌝ }
+    asked: bool,
+    helds: &[u64],
+) -> Checked
+    requires { ⌜ (length (now window) ≡ e - w) × Fills (now file) xs count (replicate (e - w) 0) w e (now carries) × (asked ≡ true → e ≤ length (now helds)) ⌝ }
+    ensures { λ r. ⌜ (WindowKept (now (file .entry)) xs count memory w e (now (carries .exit)) (r .kept) × (r .same ≡ true → (asked ≡ true) × ((t : ℕ) → w ≤ t → t < e → getD (now (helds .entry)) t 0 ≡ heldIn (now (file .entry)) t (take count xs)))) ⌝ }
 {
     let n = e - w;
     clear(window, n);
     window_fill(file, xs, count, window, w, e, carries);
-    window_within(window, n, memory)
+    let kept = window_within(window, n, memory);
+    let same = same_places(asked, helds, w, window, n);
+    Checked { kept, same }
 }
 
 // Whether the first `count` are all 0.
@@ -193,16 +246,18 @@ fn none_left(carries: [u64; MAX_BOOKINGS], count: usize) -> bool
     true
 }
 
-// Whether every round of the day keeps the memory limit and every stream has a schedule.
+// Whether every round of the day keeps the memory limit and every stream has a schedule; and if they do, whether the first T
+// places of `helds` are what is held by round. A list that is shorter is not looked at.
 pub fn held_within(
     file: &[u8],
     xs: [Stream; MAX_BOOKINGS],
     count: usize,
     day_rounds: usize,
     memory: u64,
-) -> bool
+    helds: &[u64],
+) -> Checked
     requires { ⌜ (count ≤ maxBookings) × EachOf (Playable (now file)) count xs × EachOf (Within «day_rounds») count xs ⌝ }
-    ensures { λ r. ⌜ r ≡ memoryKept (now (file .entry)) memory «day_rounds» (take count xs) && all (feasible (now (file .entry))) (take count xs) ⌝ }
+    ensures { λ r. ⌜ ((r .kept ≡ memoryKept (now (file .entry)) memory «day_rounds» (take count xs) && all (feasible (now (file .entry))) (take count xs)) × (r .same ≡ true → Agrees (now (file .entry)) (take count xs) (now (helds .entry)) 0 «day_rounds»)) ⌝ }
 {
     let mut starts = [0usize; MAX_BOOKINGS];
     let mut ends = [0usize; MAX_BOOKINGS];
@@ -210,10 +265,12 @@ pub fn held_within(
     let mut carries = [0u64; MAX_BOOKINGS];
     let mut window = [0u64; WINDOW];
     let mut e = open_until(&starts, &ends, count, day_rounds);
+    let long = day_rounds <= helds.len();
+    let mut same = empty_places(long, helds, e, day_rounds);
     while 0 < e {
         let w = open_from(&starts, &ends, count, e - smaller(e, WINDOW), e - 1);
         let n = e - w;
-        if !window_kept(
+        let checked = window_kept(
             file,
             xs,
             count,
@@ -222,10 +279,18 @@ pub fn held_within(
             e,
             &mut carries,
             memory,
-        ) {
-            return false;
+            same,
+            helds,
+        );
+        if !checked.kept {
+            return Checked {
+                kept: false,
+                same: false,
+            };
         }
         e = open_until(&starts, &ends, count, w);
+        same = empty_places(checked.same, helds, e, w);
     }
-    none_left(carries, count)
+    let kept = none_left(carries, count);
+    Checked { kept, same }
 }

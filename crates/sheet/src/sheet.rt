@@ -9,7 +9,7 @@ ghost use Rattle.retrieval.specs.Sheet.{plus};
 ghost use Rattle.sheet.specs.Sheet.{Below, Addable, AddedTo, Lists, LaidOn, Lays, Laid, Raises, Raised};
 
 // Adds v to each of the first n places.
-fn add_each(part: &mut [u64], n: usize, v: u64)
+pub fn add_each(part: &mut [u64], n: usize, v: u64)
     requires { ⌜ (n ≤ length (now part)) × Below v (now part) ⌝ }
     ensures { λ _. ⌜ now (part .exit) ≡ plus (now (part .entry)) (replicate n v) ⌝ }
 {

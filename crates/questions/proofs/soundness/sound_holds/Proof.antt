@@ -1,4 +1,6 @@
 -- `questions::soundness::sound_holds` meets its contract: the first test that fails decides. Assumes nothing.
+use mathlib.Core.Path.{sym}
+use mathlib.Core.Bool.{true≢false}
 use native.Mathlib.Omega.{arith}
 use borrow.Author.Needs.{needs}
 use borrow.Author.Tests.{le-leb, lt-leb}
@@ -10,14 +12,16 @@ use Rattle.questions.proofs.soundness.sound_holds.Tie as tie
 returns : tie.Need-returns
 unfolding soundHolds
 returns c =
-    let a = c .before .before .args in
-    rw (lt-leb (a .day .count) maxBookings (c .if1 .taken))
+    let a = c .before .before .before .args in
+    (rw (lt-leb (a .day .count) maxBookings (c .if1 .taken)), λ e. absurd (true≢false (sym e)))
 
 returns-2 : tie.Need-returns-2
 unfolding soundHolds
 returns-2 c =
-    let a = c .before .before .before .args in
-    rw (le-leb (a .day .count) maxBookings (c .before .if1 .left), lt-leb (a .day .count) (a .places) (c .if2 .taken))
+    let a = c .before .before .before .before .args in (
+      rw (le-leb (a .day .count) maxBookings (c .before .if1 .left), lt-leb (a .day .count) (a .places) (c .if2 .taken)),
+      λ e. absurd (true≢false (sym e)),
+    )
 
 sound-list-requires : tie.Need-sound-list-requires
 sound-list-requires c κs = search needs
@@ -27,8 +31,10 @@ unfolding soundHolds
 returns-3 c =
     let two = c .before in
     let one = two .before in
-    let a = one .before .before .args in
-    rw (le-leb (a .day .count) maxBookings (one .if1 .left), le-leb (a .day .count) (a .places) (two .if2 .left)) (c .sound-list .ensures)
+    let a = one .before .before .before .args in (
+      rw (le-leb (a .day .count) maxBookings (one .if1 .left), le-leb (a .day .count) (a .places) (two .if2 .left)) (c .sound-list .ensures .0),
+      c .sound-list .ensures .1,
+    )
 
 pub sound-holds-spec : {M : Type 1} → statement M
 sound-holds-spec = tie.close (tie.spec returns returns-2 sound-list-requires returns-3)

@@ -1,6 +1,7 @@
 -- `questions::soundness::sound_list` meets its contract: the bookings' streams are tied to them, so the tests of the streams are
 -- the model's of the bookings. Assumes nothing.
 use mathlib.Core.Path.{_≡_, refl, sym, ap, _∙_}
+use mathlib.Core.Bool.{true≢false}
 use mathlib.Core.List.{map}
 use native.Mathlib.Omega.{arith}
 use borrow.Author.Needs.{needs}
@@ -9,7 +10,9 @@ use lib.ListN.{take, length}
 use Rattle.films.specs.Catalogue.{catalogueOf}
 use Rattle.films.specs.declared.types.Catalogue.{Catalogue}
 use Rattle.load.specs.Streams.{streamsOf}
-use Rattle.questions.specs.ListSound.{list-sound, streams-playable}
+use Rattle.questions.specs.ListSound.{list-sound, all-tied-taken, streams-playable}
+use Rattle.questions.specs.Given.{settingAt}
+use Rattle.questions.specs.SheetOf.{agrees-kept}
 use Rattle.questions.proofs.soundness.sound_list.Statement.{statement}
 use Rattle.questions.proofs.soundness.sound_list.Tie as tie
 
@@ -18,11 +21,11 @@ names-differ-requires c κs = search needs
 
 returns : tie.Need-returns
 returns c =
-    let start = c .before .before .before in
+    let start = c .before .before .before .before in
     let a = start .args in
     let xs = streamsOf (catalogueOf (a .file .now)) (a .count) (a .rows) in
     let no = sym (c .before .names-differ .ensures) ∙ not-true _ (c .if1 .taken) in
-    sym (list-sound (a .file .now) (a .day) (a .rows) (a .count) xs (start .pre .1) (start .pre .2) (omega arith) refl ∙ rw no)
+    (sym (list-sound (a .file .now) (a .day) (a .rows) (a .count) xs (start .pre .1) (start .pre .2) (omega arith) refl ∙ rw no), λ e. absurd (true≢false (sym e)))
 
 streams-of-requires : tie.Need-streams-of-requires
 streams-of-requires c κs = search needs
@@ -32,7 +35,7 @@ all-basic-requires c κs = search needs
 
 returns-2 : tie.Need-returns-2
 returns-2 c =
-    let start = c .before .before .before .before .before .before in
+    let start = c .before .before .before .before .before .before .before in
     let a = start .args in
     let made = c .before .before .streams-of in
     let one = c .before .before .before in
@@ -40,11 +43,11 @@ returns-2 c =
     (made .ensures ∙ ap (λ (k : Catalogue). streamsOf k (a .count) (a .rows)) (start .pre .0)) in
     let yes = sym (one .before .names-differ .ensures) ∙ not-false _ (one .if1 .left) in
     let no = sym (c .before .all-basic .ensures) ∙ not-true _ (c .if2 .taken) in
-    sym (sound ∙ rw (yes, no))
+    (sym (sound ∙ rw (yes, no)), λ e. absurd (true≢false (sym e)))
 
 streams-sound-requires : tie.Need-streams-sound-requires
 streams-sound-requires c κs =
-    let start = c .before .before .before .before .before .before in
+    let start = c .before .before .before .before .before .before .before in
     let a = start .args in
     let made = c .before .before .streams-of in
     let passed = sym (c .before .all-basic .ensures) ∙ not-false _ (c .if2 .left) in
@@ -55,15 +58,20 @@ streams-sound-requires c κs =
 returns-3 : tie.Need-returns-3
 returns-3 c =
     let two = c .before in
-    let start = two .before .before .before .before .before .before in
+    let start = two .before .before .before .before .before .before .before in
     let a = start .args in
     let made = two .before .before .streams-of in
+    let from = made .ensures ∙ ap (λ (k : Catalogue). streamsOf k (a .count) (a .rows)) (start .pre .0) in
     let one = two .before .before .before in
-    let sound = list-sound (a .file .now) (a .day) (a .rows) (a .count) (made .result) (start .pre .1) (start .pre .2) (omega (arith, start))
-    (made .ensures ∙ ap (λ (k : Catalogue). streamsOf k (a .count) (a .rows)) (start .pre .0)) in
+    let sound = list-sound (a .file .now) (a .day) (a .rows) (a .count) (made .result) (start .pre .1) (start .pre .2) (omega (arith, start)) from in
     let yes = sym (one .before .names-differ .ensures) ∙ not-false _ (one .if1 .left) in
     let passed = sym (two .before .all-basic .ensures) ∙ not-false _ (two .if2 .left) in
-    sym (sound ∙ rw (yes, passed) (sym (c .streams-sound .ensures)))
+    let tied = all-tied-taken (a .file .now) (a .day) (a .rows) (a .count) (made .result) (start .pre .1) (start .pre .2) (omega (arith, start)) from in (
+      sym (sound ∙ rw (yes, passed) (sym (c .streams-sound .ensures .0))),
+      λ e.
+          agrees-kept (settingAt (a .file .now) (a .day)) (a .file .now) (take (a .count) (a .rows)) (take (a .count) (made .result)) tied (a .helds .now)
+          (c .streams-sound .ensures .1 e),
+    )
 
 pub sound-list-spec : {M : Type 1} → statement M
 sound-list-spec =

@@ -1,21 +1,28 @@
--- `sheet::memory::held_within` meets its contract. The invariant: the rounds from e on keep the limit, and the carries are those of the
--- rounds from e on. The measure is e. Assumes nothing.
-use mathlib.Core.Path.{_≡_, sym, _∙_}
-use Prim.Native.Nat.{zero, _-_}
+-- `sheet::memory::held_within` meets its contract. The invariant: the rounds from e on keep the limit, the carries are those of the rounds
+-- from e on, and as long as no difference was found the list has what is held in them. The measure is e. Assumes nothing.
+use mathlib.Core.Path.{_≡_, sym, _∙_, subst}
+use mathlib.Core.Bool.{true, true≢false}
+use Prim.Native.Nat.{ℕ, zero, _-_, _≤_}
 use native.Mathlib.Omega.{arith}
 use borrow.Author.Needs.{needs}
-use borrow.Author.Tests.{not-true, not-false}
-use lib.ListN.{length, drop, replicate, length-replicate, length-append, length-take, length-drop}
+use borrow.Author.Tests.{not-true, not-false, leb-true}
+use lib.ListN.{length, take, drop, replicate, length-replicate, length-append, length-take, length-drop}
 use Rattle.limits.specs.Bounds.{maxBookings}
+use Rattle.sheet.specs.Memory.{Agrees}
 use Rattle.sheet.specs.FillLaws.{Passed, passed-none, passed-skip, passed-no, passed-next, passed-all, zeros-at}
+use Rattle.sheet.specs.AgreeLaws.{agrees-none, agrees-more, agrees-skip}
 use Rattle.sheet.proofs.memory.held_within.Statement.{statement}
 use Rattle.sheet.proofs.memory.held_within.Tie as tie
 
 abbrev Inv-loop : tie.InvT-loop
-Inv-loop file xs count day-rounds memory starts ends carries₀ window₀ e₀ carries window e = (length window ≡ 4096) × Passed file xs count day-rounds memory carries e
+Inv-loop file xs count day-rounds memory helds starts ends carries₀ window₀ e₀ long same₀ carries window e same =
+    (length window ≡ 4096)
+    × Passed file xs count day-rounds memory carries e
+    × (same ≡ true → Agrees file (take count xs) helds e day-rounds)
+    × (e ≤ day-rounds)
 
 abbrev μ-loop : tie.MeasureT-loop
-μ-loop file xs count day-rounds memory starts ends carries₀ window₀ e₀ carries window e = e
+μ-loop file xs count day-rounds memory helds starts ends carries₀ window₀ e₀ long same₀ carries window e same = e
 
 slice-aggregate-spans : tie.Need-slice-aggregate-spans Inv-loop μ-loop
 slice-aggregate-spans c = search needs
@@ -24,7 +31,7 @@ slice-aggregate-spans-2 : tie.Need-slice-aggregate-spans-2 Inv-loop μ-loop
 slice-aggregate-spans-2 c = search needs
 
 spans-requires : tie.Need-spans-requires Inv-loop μ-loop
-spans-requires c κs = (search needs, λ i h. c .before .before .before .pre .1 i h .bounded, search needs, search needs)
+spans-requires c κs = (search needs, λ i h. c .before .before .before .before .pre .1 i h .bounded, search needs, search needs)
 
 slice-aggregate-open-until : tie.Need-slice-aggregate-open-until Inv-loop μ-loop
 slice-aggregate-open-until c = search needs
@@ -35,13 +42,27 @@ slice-aggregate-open-until-2 c = search needs
 open-until-requires : tie.Need-open-until-requires Inv-loop μ-loop
 open-until-requires c κs = search needs
 
+empty-places-requires : tie.Need-empty-places-requires Inv-loop μ-loop
+empty-places-requires c κs = λ z. leb-true _ _ z
+
 loop-holds : tie.Need-loop-holds Inv-loop μ-loop
 loop-holds c =
-    let s = c .before .before .before .before .before .before .before .before .before in
+    let until = c .before in
+    let spread = until .before .before .before .before .before in
+    let s = spread .before .before .before .before .before in
     let a = s .args in
-    let spans = c .before .before .before .before .before .spans in
-    let none = passed-none (a .file .now) (a .xs) (a .count) (a .day-rounds) (a .memory) (replicate maxBookings 0) (length-replicate maxBookings zero) (zeros-at maxBookings) (s .pre .2) in
-    (length-replicate 4096 zero, passed-skip (a .file .now) (a .xs) (a .count) (a .day-rounds) (a .memory) (replicate maxBookings 0) (a .day-rounds) none (c .open-until .result) (spans .last .1 .1 .0) (spans .last .1 .1 .1 .0) (s .pre .1) (spans .ensures) (c .open-until .ensures .0))
+    let spans = spread .spans in
+    let starts = spans .last .1 .1 .0 in
+    let ends = spans .last .1 .1 .1 .0 in
+    let none = passed-none (a .file .now) (a .xs) (a .count) (a .day-rounds) (a .memory) (replicate maxBookings 0) (length-replicate maxBookings zero) (zeros-at maxBookings) (s .pre .2) in (
+      length-replicate 4096 zero,
+      passed-skip (a .file .now) (a .xs) (a .count) (a .day-rounds) (a .memory) (replicate maxBookings 0) (a .day-rounds) none (until .open-until .result) starts ends (s .pre .1) (spans .ensures) (until .open-until .ensures .0),
+      λ z.
+          let empty = c .empty-places .ensures z in
+          agrees-skip (a .file .now) (a .xs) (a .count) (a .day-rounds) (until .open-until .result) (a .day-rounds) starts ends (a .helds .now) (s .pre .1) (spans .ensures)
+          (until .open-until .ensures .0) (agrees-none (a .file .now) (take (a .count) (a .xs)) (a .helds .now) (a .day-rounds) (leb-true _ _ (empty .0))) (empty .1),
+      until .open-until .ensures .1,
+    )
 
 slice-aggregate-open-from : tie.Need-slice-aggregate-open-from Inv-loop μ-loop
 slice-aggregate-open-from c = search needs
@@ -78,8 +99,10 @@ slice-aggregate-window-kept-2 c = search needs
 
 window-kept-requires : tie.Need-window-kept-requires Inv-loop μ-loop
 window-kept-requires c κs =
-    let s = c .before .before .before .before .before .before .before .before .before .before .before .before .before .before .before .before .before in
-    let l = c .before .before .before .before .before .before .before .loop in
+    let looped = c .before .before .before .before .before .before .before in
+    let spread = looped .before .before .before .before .before .before .before in
+    let s = spread .before .before .before .before .before in
+    let l = looped .loop in
     let n = l .e - c .before .before .open-from .result in (
       omega (arith, length-take n (l .window)),
       record {
@@ -91,14 +114,22 @@ window-kept-requires c κs =
         size = omega (arith, l .inv .1 .size, s .pre .0);
         carried = l .inv .1 .carried;
       },
+      λ z. omega (arith, l .inv .2 z .long, l .inv .3),
     )
 
 returns : tie.Need-returns Inv-loop μ-loop
 returns c =
-    let a = c .before .before .before .before .before .before .before .before .before .before .before .before .before .before .before .before .before .before .before .before .before .args in
-    let l = c .before .before .before .before .before .before .before .before .before .before .before .loop in
-    let kept = c .before .before .before .window-kept in
-    sym (passed-no (a .file .now) (a .xs) (a .count) (a .day-rounds) (a .memory) (l .carries) (l .e) (l .inv .1) (c .before .before .before .before .before .before .open-from .result) (kept .last .1 .1 .1 .1 .1 .1 .0) (kept .result) (kept .ensures) (not-true _ (c .if1 .taken)))
+    let windowed = c .before .before .before .before in
+    let from = windowed .before .before .before .open-from in
+    let looped = windowed .before .before .before .before .before .before .before .before in
+    let spread = looped .before .before .before .before .before .before .before in
+    let s = spread .before .before .before .before .before in
+    let a = s .args in
+    let l = looped .loop in
+    let kept = windowed .window-kept in (
+      sym (passed-no (a .file .now) (a .xs) (a .count) (a .day-rounds) (a .memory) (l .carries) (l .e) (l .inv .1) (from .result) (kept .last .1 .1 .1 .1 .1 .1 .0) (kept .result .kept) (kept .ensures .0) (not-true _ (c .if1 .taken))),
+      λ e. absurd (true≢false (sym e)),
+    )
 
 slice-aggregate-open-until-3 : tie.Need-slice-aggregate-open-until-3 Inv-loop μ-loop
 slice-aggregate-open-until-3 c = search needs
@@ -107,34 +138,64 @@ slice-aggregate-open-until-4 : tie.Need-slice-aggregate-open-until-4 Inv-loop μ
 slice-aggregate-open-until-4 c = search needs
 
 open-until-requires-2 : tie.Need-open-until-requires-2 Inv-loop μ-loop
-open-until-requires-2 c κs = search needs
+open-until-requires-2 c κs =
+    let first = c .before .before .before .before .before .before .before .before .before .before .before .before .before .before .before .before in
+    (omega (arith, first), omega (arith, first))
+
+empty-places-requires-2 : tie.Need-empty-places-requires-2 Inv-loop μ-loop
+empty-places-requires-2 c κs =
+    let windowed = c .before .before .before .before .before .before .before in
+    let from = windowed .before .before .before .open-from in
+    let l = windowed .before .before .before .before .before .before .before .before .loop in
+    λ z. omega (arith, l .inv .2 (windowed .window-kept .ensures .1 z .0) .long, l .inv .3, from .ensures .2)
 
 loop-less : tie.Need-loop-less Inv-loop μ-loop
 loop-less c = search needs
 
 loop-again : tie.Need-loop-again Inv-loop μ-loop
 loop-again c =
-    let s = c .before .before .before .before .before .before .before .before .before .before .before .before .before .before .before .before .before .before .before .before .before .before .before .before in
+    let until = c .before in
+    let windowed = until .before .before .before .before .before .before .before in
+    let from = windowed .before .before .before .open-from in
+    let looped = windowed .before .before .before .before .before .before .before .before in
+    let spread = looped .before .before .before .before .before .before .before in
+    let s = spread .before .before .before .before .before in
     let a = s .args in
-    let spans = c .before .before .before .before .before .before .before .before .before .before .before .before .before .before .before .before .before .before .before .before .spans in
-    let l = c .before .before .before .before .before .before .before .before .before .before .before .before .before .before .loop in
-    let from = c .before .before .before .before .before .before .before .before .before .open-from in
-    let kept = c .before .before .before .before .before .before .window-kept in
+    let spans = spread .spans in
+    let starts = spans .last .1 .1 .0 in
+    let ends = spans .last .1 .1 .1 .0 in
+    let l = looped .loop in
+    let kept = windowed .window-kept in
+    let back = until .before .before .before .before .before in
     let carries = kept .last .1 .1 .1 .1 .1 .1 .0 in
-    let next = passed-next (a .file .now) (a .xs) (a .count) (a .day-rounds) (a .memory) (l .carries) (l .e) (l .inv .1) (from .result) carries (kept .result) (kept .ensures) (omega arith) (not-false _ (c .before .before .before .if1 .left)) in
+    let next = passed-next (a .file .now) (a .xs) (a .count) (a .day-rounds) (a .memory) (l .carries) (l .e) (l .inv .1) (from .result) carries (kept .result .kept) (kept .ensures .0) (omega (arith, back, l .inv .1 .size)) (not-false _ (until .before .before .before .if1 .left)) in
     let n = l .e - from .result in
-    let size = length-append (kept .last .1 .1 .1 .0) (drop n (l .window)) in
-    (omega (arith, length-drop n (l .window), length-take n (l .window)), passed-skip (a .file .now) (a .xs) (a .count) (a .day-rounds) (a .memory) carries (from .result) next (c .open-until2 .result) (spans .last .1 .1 .0) (spans .last .1 .1 .1 .0) (s .pre .1) (spans .ensures) (c .open-until2 .ensures .0))
+    let size = length-append (kept .last .1 .1 .1 .0) (drop n (l .window)) in (
+      omega (arith, length-drop n (l .window), length-take n (l .window)),
+      passed-skip (a .file .now) (a .xs) (a .count) (a .day-rounds) (a .memory) carries (from .result) next (until .open-until2 .result) starts ends (s .pre .1) (spans .ensures) (until .open-until2 .ensures .0),
+      λ z.
+          let empty = c .empty-places2 .ensures z in
+          let same = kept .ensures .1 (empty .0) in
+          agrees-skip (a .file .now) (a .xs) (a .count) (from .result) (until .open-until2 .result) (a .day-rounds) starts ends (a .helds .now) (s .pre .1) (spans .ensures)
+          (until .open-until2 .ensures .0)
+          (agrees-more (a .file .now) (take (a .count) (a .xs)) (a .helds .now) (from .result) (l .e) (a .day-rounds) (l .inv .2 (same .0)) (same .1)) (empty .1),
+      omega (arith, until .open-until2 .ensures .1, from .ensures .2, l .inv .3),
+    )
 
 none-left-requires : tie.Need-none-left-requires Inv-loop μ-loop
 none-left-requires c κs = search needs
 
 returns-2 : tie.Need-returns-2 Inv-loop μ-loop
 returns-2 c =
-    let s = c .before .before .before .before .before .before .before .before .before .before .before .before in
+    let looped = c .before .before in
+    let spread = looped .before .before .before .before .before .before .before in
+    let s = spread .before .before .before .before .before in
     let a = s .args in
-    let l = c .before .before .loop in
-    c .none-left .ensures ∙ passed-all (a .file .now) (a .xs) (a .count) (a .day-rounds) (a .memory) (l .carries) (l .e) (l .inv .1) (s .pre .0) (omega arith) (omega arith)
+    let l = looped .loop in
+    let end : l .e ≡ 0 = omega arith in (
+      c .none-left .ensures ∙ passed-all (a .file .now) (a .xs) (a .count) (a .day-rounds) (a .memory) (l .carries) (l .e) (l .inv .1) (s .pre .0) (omega arith) end,
+      λ z. subst (λ (k : ℕ). Agrees (a .file .now) (take (a .count) (a .xs)) (a .helds .now) k (a .day-rounds)) end (l .inv .2 z),
+    )
 
 pub held-within-spec : {M : Type 1} → statement M
 held-within-spec =
@@ -148,6 +209,7 @@ held-within-spec =
     slice-aggregate-open-until
     slice-aggregate-open-until-2
     open-until-requires
+    empty-places-requires
     loop-holds
     slice-aggregate-open-from
     slice-aggregate-open-from-2
@@ -164,6 +226,7 @@ held-within-spec =
     slice-aggregate-open-until-3
     slice-aggregate-open-until-4
     open-until-requires-2
+    empty-places-requires-2
     loop-less
     loop-again
     none-left-requires

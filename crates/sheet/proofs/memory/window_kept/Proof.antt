@@ -1,8 +1,10 @@
--- `sheet::memory::window_kept` meets its contract. The window is empty once it is cleared. Assumes nothing.
+-- `sheet::memory::window_kept` meets its contract. The window is empty once it is cleared, and its places are compared by round.
+-- Assumes nothing.
 use native.Mathlib.Omega.{arith}
 use Prim.Native.Nat.{_-_}
-use borrow.Author.Needs.{needs}
 use Rattle.sheet.specs.FillLaws.{kept-window, cleared-all}
+use Rattle.sheet.specs.AgreeLaws.{window-agrees}
+use borrow.Author.Needs.{needs}
 use Rattle.sheet.proofs.memory.window_kept.Statement.{statement}
 use Rattle.sheet.proofs.memory.window_kept.Tie as tie
 
@@ -14,13 +16,18 @@ clear-requires c κs = search needs
 
 window-fill-requires : tie.Need-window-fill-requires
 window-fill-requires c κs =
-    let s = c .before .before .before .before .before .before .before .before .before in
+    let s = c .before .before .before .before .before .before .before .before .before .before in
     let a = s .args in
     let clear = c .before .before .before .before .clear in
     rw (cleared-all (a .e - a .w) (a .window .now) (clear .last .0) (s .pre .0) (clear .ensures)) (s .pre .1)
 
 window-within-requires : tie.Need-window-within-requires
 window-within-requires c κs = search needs
+
+same-places-requires : tie.Need-same-places-requires
+same-places-requires c κs =
+    let s = c .before .before .before .before .before .before .before .before .before .before .before .before .before .before .before .before .before .before in
+    (λ z. omega (arith, s .pre .2 z, s .pre .1 .order), search needs)
 
 same-length : tie.Need-same-length
 same-length c = search needs
@@ -30,15 +37,23 @@ same-length-2 c = search needs
 
 returns : tie.Need-returns
 returns c =
-    let s = c .before .before .before .before .before .before .before .before .before .before .before .before .before .before .before .before in
+    let within = c .before .before in
+    let filled = within .before .before .before .before .before .before in
+    let s = filled .before .before .before .before .before .before .before .before .before .before .before in
     let a = s .args in
-    let fill = c .before .before .before .before .before .before .window-fill in
-    record {
-      kept =
-          rw (c .window-within .ensures)
-          (kept-window (a .file .now) (a .memory) (a .xs) (a .count) (fill .last .1 .1 .1 .0) (a .w) (a .e) (fill .last .1 .1 .1 .1 .1 .1 .0) (omega arith) (omega arith) (fill .ensures));
-      carried = fill .ensures .carried;
-    }
+    let fill = filled .window-fill in
+    let window = fill .last .1 .1 .1 .0 in
+    let carries = fill .last .1 .1 .1 .1 .1 .1 .0 in (
+      record {
+        kept =
+            rw (within .window-within .ensures)
+            (kept-window (a .file .now) (a .memory) (a .xs) (a .count) window (a .w) (a .e) carries (omega (arith, s .pre .1 .order)) (omega arith) (fill .ensures));
+        carried = fill .ensures .carried;
+      },
+      λ z.
+          let same = c .same-places .ensures z in
+          (same .0, window-agrees (a .file .now) (a .xs) (a .count) window (a .w) (a .e) carries (a .helds .now) (fill .ensures) (same .1)),
+    )
 
 pub window-kept-spec : {M : Type 1} → statement M
 window-kept-spec =
@@ -48,6 +63,7 @@ window-kept-spec =
     clear-requires
     window-fill-requires
     window-within-requires
+    same-places-requires
     same-length
     same-length-2
     returns)
