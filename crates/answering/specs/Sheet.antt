@@ -13,20 +13,15 @@ use Rattle.model.specs.Expected.{expected}
 use Rattle.model.specs.Steps.{stands-is}
 use Rattle.model.specs.declared.Booking.{Booking}
 use Rattle.questions.specs.Given.{settingAt}
+use Rattle.questions.specs.SheetOf.{SheetKept}
 use Rattle.console.specs.Session.{SessionState, lentBy}
 use Rattle.console.specs.PlainSession.{PlainSession, unopened, onDay}
 use Rattle.console.specs.PlainLaws.{Stands}
 use Rattle.answering.specs.Kept.{Kept}
 
--- the first T places of each list are worked out from the standing bookings
-pub record SheetStands (S : Setting) (bs : List Booking) (opens reserves helds : List ℕ) : Type 0 where
-  pub films : opens ≡ workedOut (S .rounds) (λ t. opened S t bs) opens
-  pub reserve-sums : reserves ≡ workedOut (S .rounds) (λ t. reserved S t bs) reserves
-  pub held-sums : helds ≡ workedOut (S .rounds) (λ t. held S t bs) helds
-
--- of a session
+-- a session's lists are the sheet of its standing bookings
 abbrev pub sheetOf : List ℕ → SessionState → Type 0
-sheetOf file s = SheetStands (settingAt file (s .day)) (take (s .day .count) (s .rows)) (s .opens) (s .reserves) (s .helds)
+sheetOf file s = SheetKept (settingAt file (s .day)) (take (s .day .count) (s .rows)) (s .opens) (s .reserves) (s .helds)
 
 -- a list worked out from bookings is worked out from the same ones again
 again : (n : ℕ) (g : List Booking → ℕ → ℕ) (bs cs : List Booking) (o : List ℕ) → cs ≡ bs → workedOut n (g bs) o ≡ workedOut n (g cs) (workedOut n (g bs) o)

@@ -1,12 +1,12 @@
 // A command carried out on a session that only the program's commands have changed, and answered.
-use booking::book_standing;
+use booking::book_kept;
 use commands::Command;
 use console::Session;
 use console::Stepped;
 use console::answer::write_first;
 use console::answer::write_reply;
 use console::step;
-use dropping::drop_standing;
+use dropping::drop_kept;
 use films::types::Catalogue;
 use limits::bounds::HALL_PLACES;
 use limits::bounds::MAX_BOOKINGS;
@@ -163,7 +163,7 @@ fn step_book(
     requires { ⌜ (outputBytes ≤ length (now out)) × (0 < day .rounds) × Ready (now file) c (sessionAt day rows (now opens) (now reserves) (now helds)) ⌝ }
     ensures { λ r. ⌜ afterOf r (now (opens .exit)) (now (reserves .exit)) (now (helds .exit)) (now (out .exit)) ≡ stepOf (now (file .entry)) (sessionAt day rows (now (opens .entry)) (now (reserves .entry)) (now (helds .entry))) (Book q) (now (out .entry)) ⌝ }
 {
-    let booked = book_standing(file, c, day, rows, PLACES, q, opens, reserves, helds);
+    let booked = book_kept(file, c, day, rows, PLACES, q, opens, reserves, helds);
     let after = booked.day;
     let left = booked.rows;
     let answer = booked.answer;
@@ -192,7 +192,7 @@ fn step_drop(
     requires { ⌜ (outputBytes ≤ length (now out)) × (0 < day .rounds) × Ready (now file) c (sessionAt day rows (now opens) (now reserves) (now helds)) ⌝ }
     ensures { λ r. ⌜ afterOf r (now (opens .exit)) (now (reserves .exit)) (now (helds .exit)) (now (out .exit)) ≡ stepOf (now (file .entry)) (sessionAt day rows (now (opens .entry)) (now (reserves .entry)) (now (helds .entry))) (Drop name) (now (out .entry)) ⌝ }
 {
-    let dropped = drop_standing(file, c, day, rows, PLACES, name, opens, reserves, helds);
+    let dropped = drop_kept(file, c, day, rows, PLACES, name, opens, reserves, helds);
     let after = dropped.day;
     let left = dropped.rows;
     let answer = dropped.answer;

@@ -1,18 +1,19 @@
 -- `answering::step_book` meets its contract: it is the model's booking, whose first questions pass. Assumes nothing.
 use Rattle.answering.specs.Contract.{sessionAt}
 use Rattle.answering.specs.Kept.{ready-asks}
+use Rattle.answering.specs.Sheet.{kept-sheet}
 use Rattle.answering.specs.Answering.{book-step}
 use borrow.Author.Needs.{needs}
 use Rattle.answering.proofs.step_book.Statement.{statement}
 use Rattle.answering.proofs.step_book.Tie as tie
 
-book-standing-requires : tie.Need-book-standing-requires
-book-standing-requires c κs =
+book-kept-requires : tie.Need-book-kept-requires
+book-kept-requires c κs =
     let start = c .before .before .before .before .before .before .before .before in
     let a = start .args in
     let s = sessionAt (a .day) (a .rows) (a .opens .now) (a .reserves .now) (a .helds .now) in
     let ready = start .pre .2 in
-    (ready .catalogue, ready-asks (a .file .now) (a .c) s ready (start .pre .1))
+    (ready .catalogue, ready-asks (a .file .now) (a .c) s ready (start .pre .1), kept-sheet (a .file .now) s (ready .kept) (start .pre .1))
 
 write-first-requires : tie.Need-write-first-requires
 write-first-requires c κs = search needs
@@ -32,7 +33,7 @@ same-length-4 c = search needs
 returns : tie.Need-returns
 returns c =
     let wrote = c .before .before .write-first in
-    let booked = c .before .before .before .before .before .before .before .before .before .before .before .before .book-standing in
+    let booked = c .before .before .before .before .before .before .before .before .before .before .before .before .book-kept in
     let start = c .before .before .before .before .before .before .before .before .before .before .before .before .before .before .before .before .before .before .before .before .before in
     let a = start .args in
     book-step (a .file .now) (a .day) (a .rows) (a .opens .now) (a .reserves .now) (a .helds .now) (a .out .now) (start .pre .0) (a .q) (booked .result .answer)
@@ -50,7 +51,7 @@ pub step-book-spec : {M : Type 1} → statement M
 step-book-spec =
     tie.close
     (tie.spec
-    book-standing-requires
+    book-kept-requires
     write-first-requires
     same-length
     same-length-2

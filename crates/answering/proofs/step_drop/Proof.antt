@@ -1,18 +1,19 @@
 -- `answering::step_drop` meets its contract: it is the model's drop, whose first questions pass. Assumes nothing.
 use Rattle.answering.specs.Contract.{sessionAt}
 use Rattle.answering.specs.Kept.{ready-asks}
+use Rattle.answering.specs.Sheet.{kept-sheet}
 use Rattle.answering.specs.Answering.{drop-step}
 use borrow.Author.Needs.{needs}
 use Rattle.answering.proofs.step_drop.Statement.{statement}
 use Rattle.answering.proofs.step_drop.Tie as tie
 
-drop-standing-requires : tie.Need-drop-standing-requires
-drop-standing-requires c κs =
+drop-kept-requires : tie.Need-drop-kept-requires
+drop-kept-requires c κs =
     let start = c .before .before .before .before .before .before .before .before in
     let a = start .args in
     let s = sessionAt (a .day) (a .rows) (a .opens .now) (a .reserves .now) (a .helds .now) in
     let ready = start .pre .2 in
-    (ready .catalogue, ready-asks (a .file .now) (a .c) s ready (start .pre .1))
+    (ready .catalogue, ready-asks (a .file .now) (a .c) s ready (start .pre .1), kept-sheet (a .file .now) s (ready .kept) (start .pre .1))
 
 write-first-requires : tie.Need-write-first-requires
 write-first-requires c κs = search needs
@@ -32,7 +33,7 @@ same-length-4 c = search needs
 returns : tie.Need-returns
 returns c =
     let wrote = c .before .before .write-first in
-    let dropped = c .before .before .before .before .before .before .before .before .before .before .before .before .drop-standing in
+    let dropped = c .before .before .before .before .before .before .before .before .before .before .before .before .drop-kept in
     let start = c .before .before .before .before .before .before .before .before .before .before .before .before .before .before .before .before .before .before .before .before .before in
     let a = start .args in
     drop-step (a .file .now) (a .day) (a .rows) (a .opens .now) (a .reserves .now) (a .helds .now) (a .out .now) (start .pre .0) (a .name) (dropped .result)
@@ -48,7 +49,7 @@ pub step-drop-spec : {M : Type 1} → statement M
 step-drop-spec =
     tie.close
     (tie.spec
-    drop-standing-requires
+    drop-kept-requires
     write-first-requires
     same-length
     same-length-2
