@@ -31,6 +31,7 @@ use Rattle.load.specs.Stream.{noStream, lengthOf, profileOf}
 use Rattle.load.specs.Streams.{streamsOf}
 use Rattle.load.specs.Basic.{Playable, Within, EachOf}
 use Rattle.load.specs.declared.stream.Stream.{Stream}
+use Rattle.sheet.specs.Memory.{Agrees}
 use Rattle.sheet.specs.Sheet.{Laid, Lays, Places, Raises, Raised}
 use Rattle.sheet.specs.LaidLaws.{length-worked, laid-raises, laid-raised}
 use Rattle.search.specs.Fit.{queryOf, startAt, fitsAt, answerOf, Window}
@@ -41,7 +42,7 @@ use Rattle.questions.specs.Numbers.{roundsHold, dayHolds, limitsHold, sheetHold
 use Rattle.questions.specs.Standing.{Standing, standing-held, standing-numbered, standing-after}
 use Rattle.questions.specs.Tied.{Tied, AllTied, tied-rounds}
 use Rattle.questions.specs.ListSound.{all-tied-taken, length-streams, sound-playable}
-use Rattle.questions.specs.SheetOf.{SheetOf, SheetKept, laid-sheet, sheet-laid}
+use Rattle.questions.specs.SheetOf.{SheetOf, SheetKept, HeldKept, laid-sheet, sheet-laid, kept-agrees}
 use Rattle.questions.specs.Start.{first-query}
 use Rattle.booking.specs.Contract.{Leaves, bookAsks}
 use Rattle.booking.specs.Own.{ownAsks, own-same, requestOf, request-tied}
@@ -146,6 +147,10 @@ module _ (f : List ℕ) (day : Day) (rows : List Booking) (places : ℕ) (q : Re
 
     pub lays : Lays f xs (day .count) T o₀ r₀ h₀
     lays = record { few = stands .few; streams = good .0; within = good .1; places = sheet-places }
+
+    -- what the bookings hold, their streams do
+    pub held-agrees : HeldKept S bs h₀ → Agrees f (take (day .count) xs) h₀ 0 T
+    held-agrees = kept-agrees S f bs (take (day .count) xs) tied h₀
 
     -- a sheet that is theirs already is theirs by the streams
     pub kept-laid : SheetKept S bs o₀ r₀ h₀ → Laid f (take (day .count) xs) T o₀ r₀ h₀ o₀ r₀ h₀

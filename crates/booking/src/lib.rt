@@ -14,14 +14,15 @@ use model::Answer;
 use model::Booking;
 use model::Day;
 use model::Request;
-use questions::standing::standing_number;
+use questions::laying::lay_checked;
+use questions::standing::examine;
 use request::own_number;
 use request::requested;
 use search::Found;
 use search::first_start;
 use sheet::sheet::add_stream;
-use sheet::sheet::lay_sheet;
 ghost use mathlib.Core.Path.{_≡_};
+ghost use mathlib.Core.Bool.{true};
 ghost use lib.ListN.{length, take};
 ghost use Rattle.laws.specs.Questions.{refusal};
 ghost use Rattle.films.specs.Catalogue.{catalogueOf};
@@ -31,7 +32,7 @@ ghost use Rattle.model.specs.FirstFit.{AnswersFirst};
 ghost use Rattle.model.specs.Fit.{FitsAt};
 ghost use Rattle.questions.specs.Given.{settingAt};
 ghost use Rattle.questions.specs.Numbers.{standingAsks};
-ghost use Rattle.questions.specs.SheetOf.{SheetKept};
+ghost use Rattle.questions.specs.SheetOf.{SheetKept, HeldKept};
 ghost use Rattle.booking.specs.Contract.{Leaves, Placing, bookAsks};
 
 // What a booking gives: the answer, the day and the list's first 256 places.
@@ -98,7 +99,7 @@ fn place_on(
 }
 
 // Places a request whose questions but 22 have passed: the sheet of the standing bookings is laid down, whatever stood there,
-// and the request is placed on it.
+// and the request is placed on it. Where `same`, the lent sums of bytes held are right.
 fn place(
     file: &[u8],
     c: Catalogue,
@@ -106,17 +107,54 @@ fn place(
     rows: [Booking; MAX_BOOKINGS],
     places: u64,
     q: Request,
+    same: bool,
     opens: &mut [u64],
     reserves: &mut [u64],
     helds: &mut [u64],
 ) -> Outcome
-    requires { ⌜ (c ≡ catalogueOf (now file)) × (refusal (bookAsks (now file) day rows places q (length (now opens)) (length (now reserves)) (length (now helds))) ≡ 0) ⌝ }
+    requires { ⌜ (c ≡ catalogueOf (now file)) × (refusal (bookAsks (now file) day rows places q (length (now opens)) (length (now reserves)) (length (now helds))) ≡ 0) × (same ≡ true → HeldKept (settingAt (now file) day) (take (day .count) rows) (now helds)) ⌝ }
     ensures { λ r. ⌜ Leaves (settingAt (now (file .entry)) day) (bookCall (settingAt (now (file .entry)) day) (stateOf day rows places (now (opens .entry)) (now (reserves .entry)) (now (helds .entry))) q) (r .answer) (r .day) (r .rows) (now (opens .exit)) (now (reserves .exit)) (now (helds .exit)) ⌝ }
 {
     let count = day.count as usize;
     let xs = streams_of(c, rows, count);
-    lay_sheet(file, xs, count, day.rounds as usize, opens, reserves, helds);
+    lay_checked(
+        file,
+        xs,
+        count,
+        day.rounds as usize,
+        same,
+        opens,
+        reserves,
+        helds,
+    );
     place_on(file, c, day, rows, places, q, xs, opens, reserves, helds)
+}
+
+// `book_standing` where, if `same`, the lent sums of bytes held are those of the standing bookings.
+fn book_checked(
+    file: &[u8],
+    c: Catalogue,
+    day: Day,
+    rows: [Booking; MAX_BOOKINGS],
+    places: u64,
+    q: Request,
+    same: bool,
+    opens: &mut [u64],
+    reserves: &mut [u64],
+    helds: &mut [u64],
+) -> Outcome
+    requires { ⌜ (c ≡ catalogueOf (now file)) × (refusal (standingAsks (now file) day rows places (length (now opens)) (length (now reserves)) (length (now helds))) ≡ 0) × (same ≡ true → HeldKept (settingAt (now file) day) (take (day .count) rows) (now helds)) ⌝ }
+    ensures { λ r. ⌜ Leaves (settingAt (now (file .entry)) day) (bookCall (settingAt (now (file .entry)) day) (stateOf day rows places (now (opens .entry)) (now (reserves .entry)) (now (helds .entry))) q) (r .answer) (r .day) (r .rows) (now (opens .exit)) (now (reserves .exit)) (now (helds .exit)) ⌝ }
+{
+    let number = own_number(file, c, day, rows, places, q);
+    if number != 0 {
+        return Outcome {
+            answer: Answer::Refused(number),
+            day,
+            rows,
+        };
+    }
+    place(file, c, day, rows, places, q, same, opens, reserves, helds)
 }
 
 // Booking where the file's questions, 14, 15, 11 and 16 have passed; c is the file's catalogue.
@@ -134,15 +172,7 @@ pub fn book_standing(
     requires { ⌜ (c ≡ catalogueOf (now file)) × (refusal (standingAsks (now file) day rows places (length (now opens)) (length (now reserves)) (length (now helds))) ≡ 0) ⌝ }
     ensures { λ r. ⌜ Leaves (settingAt (now (file .entry)) day) (bookCall (settingAt (now (file .entry)) day) (stateOf day rows places (now (opens .entry)) (now (reserves .entry)) (now (helds .entry))) q) (r .answer) (r .day) (r .rows) (now (opens .exit)) (now (reserves .exit)) (now (helds .exit)) ⌝ }
 {
-    let number = own_number(file, c, day, rows, places, q);
-    if number != 0 {
-        return Outcome {
-            answer: Answer::Refused(number),
-            day,
-            rows,
-        };
-    }
-    place(file, c, day, rows, places, q, opens, reserves, helds)
+    book_checked(file, c, day, rows, places, q, false, opens, reserves, helds)
 }
 
 // `book_standing` where the sheet is that of the standing bookings already, so that it is not laid down again.
@@ -189,7 +219,7 @@ pub fn book(
     ensures first { λ r. ⌜ (refusal (bookQuestions (settingAt (now (file .entry)) day) (stateOf day rows places (now (opens .entry)) (now (reserves .entry)) (now (helds .entry))) q) ≡ 0 → AnswersFirst (FitsAt (settingAt (now (file .entry)) day) (take (day .count) rows) q) (q .first) (q .last) (r .answer)) ⌝ }
 {
     let c = catalogue(file);
-    let number = standing_number(
+    let examined = examine(
         file,
         c,
         day,
@@ -198,7 +228,9 @@ pub fn book(
         opens.len(),
         reserves.len(),
         helds.len(),
+        helds,
     );
+    let number = examined.number;
     if number != 0 {
         return Outcome {
             answer: Answer::Refused(number),
@@ -206,5 +238,6 @@ pub fn book(
             rows,
         };
     }
-    book_standing(file, c, day, rows, places, q, opens, reserves, helds)
+    let same = examined.same;
+    book_checked(file, c, day, rows, places, q, same, opens, reserves, helds)
 }

@@ -16,18 +16,22 @@ use Rattle.booking.proofs.book.Tie as tie
 catalogue-requires : tie.Need-catalogue-requires
 catalogue-requires c κs = search needs
 
-standing-number-requires : tie.Need-standing-number-requires
-standing-number-requires c κs = search needs
+examine-requires : tie.Need-examine-requires
+examine-requires c κs = search needs
+
+same-length : tie.Need-same-length
+same-length c = search needs
 
 returns : tie.Need-returns
 returns c =
-    let number = c .before .standing-number in
-    let start = c .before .before .before .before .before .before .before in
+    let examined = c .before in
+    let number = examined .examine in
+    let start = examined .before .before .before .before .before .before .before in
     let a = start .args in
     let f = a .file .now in
-    let first : number .result ≡ refusal (bookAsks f (a .day) (a .rows) (a .places) (a .q) (length (a .opens .now)) (length (a .reserves .now)) (length (a .helds .now))) =
-    sym (standing-first f (a .day) (a .rows) (a .places) (length (a .opens .now)) (length (a .reserves .now)) (length (a .helds .now)) _ (number .result) (number .ensures) (c .if1 .taken)) in (
-      leaves-refused f (a .day) (a .rows) (a .places) (a .q) (a .opens .now) (a .reserves .now) (a .helds .now) (number .result) first (c .if1 .taken),
+    let first : number .result .number ≡ refusal (bookAsks f (a .day) (a .rows) (a .places) (a .q) (length (a .opens .now)) (length (a .reserves .now)) (length (a .helds .now))) =
+    sym (standing-first f (a .day) (a .rows) (a .places) (length (a .opens .now)) (length (a .reserves .now)) (length (a .helds .now)) _ (number .result .number) (number .ensures .0) (c .if1 .taken)) in (
+      leaves-refused f (a .day) (a .rows) (a .places) (a .q) (a .opens .now) (a .reserves .now) (a .helds .now) (number .result .number) first (c .if1 .taken),
       λ e.
           absurd
           (c .if1 .taken
@@ -36,11 +40,11 @@ returns c =
           ∙ e)),
     )
 
-book-standing-requires : tie.Need-book-standing-requires
-book-standing-requires c κs = search needs
-
-same-length : tie.Need-same-length
-same-length c = search needs
+book-checked-requires : tie.Need-book-checked-requires
+book-checked-requires c κs =
+    let passed = c .before .before .before in
+    let examined = passed .before in
+    (search needs, sym (examined .examine .ensures .0) ∙ passed .if1 .left, examined .examine .ensures .1)
 
 same-length-2 : tie.Need-same-length-2
 same-length-2 c = search needs
@@ -48,14 +52,17 @@ same-length-2 c = search needs
 same-length-3 : tie.Need-same-length-3
 same-length-3 c = search needs
 
+same-length-4 : tie.Need-same-length-4
+same-length-4 c = search needs
+
 returns-2 : tie.Need-returns-2
 returns-2 c =
     let placed = c .before .before .before .before .before .before in
-    let start = placed .before .before .before .before .before .before .before .before .before .before .before in
+    let start = placed .before .before .before .before .before .before .before .before .before .before .before .before in
     let a = start .args in
     let f = a .file .now in (
-      placed .book-standing .ensures,
-      λ e. rw (placed .book-standing .ensures .answer) (book-first (settingAt f (a .day)) (stateOf (a .day) (a .rows) (a .places) (a .opens .now) (a .reserves .now) (a .helds .now)) (a .q) e),
+      placed .book-checked .ensures,
+      λ e. rw (placed .book-checked .ensures .answer) (book-first (settingAt f (a .day)) (stateOf (a .day) (a .rows) (a .places) (a .opens .now) (a .reserves .now) (a .helds .now)) (a .q) e),
     )
 
 pub book-spec : {M : Type 1} → statement M
@@ -63,10 +70,11 @@ book-spec =
     tie.close
     (tie.spec
     catalogue-requires
-    standing-number-requires
-    returns
-    book-standing-requires
+    examine-requires
     same-length
+    returns
+    book-checked-requires
     same-length-2
     same-length-3
+    same-length-4
     returns-2)

@@ -7,7 +7,7 @@ use Rattle.laws.specs.Words.{Bytes}
 use Rattle.films.specs.Catalogue.{catalogueOf}
 use Rattle.films.specs.declared.types.Catalogue.{Catalogue}
 use Rattle.load.specs.Streams.{streamsOf}
-use Rattle.booking.specs.Placed.{stands, lays}
+use Rattle.booking.specs.Placed.{stands, lays, held-agrees}
 use Rattle.booking.specs.Placing.{laid-placing, laid-leaves}
 use Rattle.booking.proofs.place.Statement.{statement}
 use Rattle.booking.proofs.place.Tie as tie
@@ -30,13 +30,18 @@ streams-of-requires c κs =
     stands (a .file .now) (a .day) (a .rows) (a .places) (a .q) (a .opens .now) (a .reserves .now) (a .helds .now) (bytes known)
     (omega (arith, known .before)) (known .before .pre .1) .few
 
-lay-sheet-requires : tie.Need-lay-sheet-requires
-lay-sheet-requires c κs =
+lay-checked-requires : tie.Need-lay-checked-requires
+lay-checked-requires c κs =
     let made = c .before .before .before in
     let known = made .before .before .before .before in
-    let a = known .before .args in
-    lays (a .file .now) (a .day) (a .rows) (a .places) (a .q) (a .opens .now) (a .reserves .now) (a .helds .now) (bytes known)
-    (omega (arith, known .before)) (known .before .pre .1) (made .streams-of .result) (streams made)
+    let start = known .before in
+    let a = start .args in (
+      lays (a .file .now) (a .day) (a .rows) (a .places) (a .q) (a .opens .now) (a .reserves .now) (a .helds .now) (bytes known) (omega (arith, start))
+          (start .pre .1) (made .streams-of .result) (streams made),
+      λ z.
+          held-agrees (a .file .now) (a .day) (a .rows) (a .places) (a .q) (a .opens .now) (a .reserves .now) (a .helds .now) (bytes known) (omega (arith, start))
+          (start .pre .1) (made .streams-of .result) (streams made) (start .pre .2 z),
+    )
 
 place-on-requires : tie.Need-place-on-requires
 place-on-requires c κs =
@@ -46,7 +51,7 @@ place-on-requires c κs =
     let start = known .before in
     let a = start .args in
     laid-placing (a .file .now) (a .c) (a .day) (a .rows) (a .places) (a .q) (made .streams-of .result) (a .opens .now) (a .reserves .now) (a .helds .now) _ _ _
-    (bytes known) (omega (arith, start)) (start .pre .1) (start .pre .0) (made .streams-of .ensures) (laid .lay-sheet .ensures)
+    (bytes known) (omega (arith, start)) (start .pre .1) (start .pre .0) (made .streams-of .ensures) (laid .lay-checked .ensures)
 
 same-length : tie.Need-same-length
 same-length c = search needs
@@ -66,14 +71,14 @@ returns c =
     let start = known .before in
     let a = start .args in
     laid-leaves (a .file .now) (a .c) (a .day) (a .rows) (a .places) (a .q) (made .streams-of .result) (a .opens .now) (a .reserves .now) (a .helds .now) _ _ _
-    (bytes known) (omega (arith, start)) (start .pre .1) (start .pre .0) (made .streams-of .ensures) (laid .lay-sheet .ensures) _ _ _ _ _ _ (placed .place-on .ensures)
+    (bytes known) (omega (arith, start)) (start .pre .1) (start .pre .0) (made .streams-of .ensures) (laid .lay-checked .ensures) _ _ _ _ _ _ (placed .place-on .ensures)
 
 pub place-spec : {M : Type 1} → statement M
 place-spec =
     tie.close
     (tie.spec
     streams-of-requires
-    lay-sheet-requires
+    lay-checked-requires
     place-on-requires
     same-length
     same-length-2
