@@ -81,7 +81,7 @@ module _ (f : List ℕ) (day : Day) (rows : List Booking) (places : ℕ) (opens 
         inside : i < day .count
         inside = omega (arith, p .within)
 
-        number-none : refusal (dropQuestions S d name) ≡ 0
+        pub number-none : refusal (dropQuestions S d name) ≡ 0
         unfolding dropOwn
         number-none = own ∙ rw (p .found ∙ lt-ltb i (day .count) inside)
 

@@ -8,3 +8,4 @@ pub mod Laws
 pub mod Taking
 pub mod TakingLaws
 pub mod KeptLaws
+pub mod CheckedLaws

@@ -12,18 +12,21 @@ use films::types::Catalogue;
 use limits::bounds::MAX_BOOKINGS;
 use limits::refusals::NO_NAME;
 use load::stream::stream_of;
+use load::stream::streams_of;
 use model::Answer;
 use model::Booking;
 use model::Day;
-use questions::standing::standing_number;
+use questions::laying::lay_checked;
+use questions::standing::examine;
 ghost use mathlib.Core.Path.{_≡_};
+ghost use mathlib.Core.Bool.{true};
 ghost use lib.ListN.{length, take};
 ghost use Rattle.laws.specs.Questions.{refusal};
 ghost use Rattle.films.specs.Catalogue.{catalogueOf};
 ghost use Rattle.model.specs.Code.{stateOf};
 ghost use Rattle.questions.specs.Given.{settingAt};
 ghost use Rattle.questions.specs.Numbers.{standingAsks};
-ghost use Rattle.questions.specs.SheetOf.{SheetKept};
+ghost use Rattle.questions.specs.SheetOf.{SheetKept, HeldKept};
 ghost use Rattle.dropping.specs.Contract.{Drops};
 
 // What a drop answers, and the day and the records after it.
@@ -114,6 +117,49 @@ pub fn drop_kept(
     }
 }
 
+// `drop_standing` where, if `same`, the lent sums of bytes held are those of the standing bookings: the rest of their sheet is
+// laid down, and the dropped one's stream taken out.
+fn drop_checked(
+    file: &[u8],
+    c: Catalogue,
+    day: Day,
+    rows: [Booking; MAX_BOOKINGS],
+    places: u64,
+    name: u32,
+    same: bool,
+    opens: &mut [u64],
+    reserves: &mut [u64],
+    helds: &mut [u64],
+) -> DropOutcome
+    requires { ⌜ (c ≡ catalogueOf (now file)) × (refusal (standingAsks (now file) day rows places (length (now opens)) (length (now reserves)) (length (now helds))) ≡ 0) × (same ≡ true → HeldKept (settingAt (now file) day) (take (day .count) rows) (now helds)) ⌝ }
+    ensures { λ r. ⌜ Drops (settingAt (now (file .entry)) day) (stateOf day rows places (now (opens .entry)) (now (reserves .entry)) (now (helds .entry))) name r (now (opens .exit)) (now (reserves .exit)) (now (helds .exit)) ⌝ }
+{
+    if !same {
+        return drop_standing(file, c, day, rows, places, name, opens, reserves, helds);
+    }
+    let count = day.count as usize;
+    let i = position(rows, count, name);
+    if i == count {
+        return DropOutcome {
+            answer: Answer::Refused(NO_NAME),
+            day,
+            rows,
+        };
+    }
+    let xs = streams_of(c, rows, count);
+    lay_checked(
+        file,
+        xs,
+        count,
+        day.rounds as usize,
+        same,
+        opens,
+        reserves,
+        helds,
+    );
+    drop_kept(file, c, day, rows, places, name, opens, reserves, helds)
+}
+
 // Takes the booking of this name out of the list: the gap is closed, the place freed is zeroed, and the sheet is worked out
 // from the rest. Refused, everything stays.
 pub fn drop_booking(
@@ -129,7 +175,7 @@ pub fn drop_booking(
     ensures { λ r. ⌜ Drops (settingAt (now (file .entry)) day) (stateOf day rows places (now (opens .entry)) (now (reserves .entry)) (now (helds .entry))) name r (now (opens .exit)) (now (reserves .exit)) (now (helds .exit)) ⌝ }
 {
     let c = catalogue(file);
-    let number = standing_number(
+    let examined = examine(
         file,
         c,
         day,
@@ -138,7 +184,9 @@ pub fn drop_booking(
         opens.len(),
         reserves.len(),
         helds.len(),
+        helds,
     );
+    let number = examined.number;
     if number != 0 {
         return DropOutcome {
             answer: Answer::Refused(number),
@@ -146,5 +194,17 @@ pub fn drop_booking(
             rows,
         };
     }
-    drop_standing(file, c, day, rows, places, name, opens, reserves, helds)
+    let same = examined.same;
+    drop_checked(
+        file,
+        c,
+        day,
+        rows,
+        places,
+        name,
+        same,
+        opens,
+        reserves,
+        helds,
+    )
 }
