@@ -25,3 +25,7 @@ rowsClash x y = not (eqb (bitAnd (x .0) (y .0)) 0) && (ltb (x .1) (y .2) && ltb 
 abbrev pub rowsClear : List Row → Bool
 rowsClear [] = true
 rowsClear (x ∷ xs) = all (λ y. not (rowsClash x y)) xs && rowsClear xs
+
+-- none of the second list clashes with one of the first
+abbrev pub rowsApart : List Row → List Row → Bool
+rowsApart xs ys = all (λ y. all (λ x. not (rowsClash y x)) xs) ys

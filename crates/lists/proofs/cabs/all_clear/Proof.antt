@@ -1,14 +1,15 @@
--- `lists::cabs::all_clear` meets its contract. The invariant: the answer is that of the rows from i on. The measure is what is
--- left of them. Assumes nothing.
+-- `lists::cabs::all_clear` meets its contract. The invariant: the answer is that of the rows from i on, of which the next block is cut
+-- off. The measure is what is left of them. Assumes nothing.
 use mathlib.Core.Path.{_≡_, refl, sym, ap, _∙_}
-use Prim.Native.Nat.{_+_, _-_, _≤_}
+use Prim.Native.Nat.{_-_, _≤_}
 use native.Mathlib.Omega.{arith}
 use borrow.Author.Needs.{needs}
 use borrow.Author.Tests.{not-true, not-false}
 use lib.ListN.{length, drop}
 use Rattle.laws.specs.Parts.{tail-part}
-use Rattle.lists.specs.Rows.{rows, rows-next, rows-end}
+use Rattle.lists.specs.Rows.{rows, rows-end}
 use Rattle.lists.specs.Cabs.{rowsClear}
+use Rattle.lists.proofs.CabLaws.{clear-cut, part-columns, rest-columns}
 use Rattle.lists.proofs.cabs.all_clear.Statement.{statement}
 use Rattle.lists.proofs.cabs.all_clear.Tie as tie
 
@@ -22,97 +23,182 @@ abbrev μ-loop : tie.MeasureT-loop
 loop-holds : tie.Need-loop-holds Inv-loop μ-loop
 loop-holds c = (omega arith, refl)
 
-mul-t7 : tie.Need-mul-t7 Inv-loop μ-loop
-mul-t7 c = search needs
+block-end-requires : tie.Need-block-end-requires Inv-loop μ-loop
+block-end-requires c κs = search needs
 
-shared-slice-read-t10 : tie.Need-shared-slice-read-t10 Inv-loop μ-loop
-shared-slice-read-t10 c = search needs
+mul-pairs-clear : tie.Need-mul-pairs-clear Inv-loop μ-loop
+mul-pairs-clear c = search needs
 
-mul-t11 : tie.Need-mul-t11 Inv-loop μ-loop
-mul-t11 c = search needs
+sub-pairs-clear : tie.Need-sub-pairs-clear Inv-loop μ-loop
+sub-pairs-clear c = search needs
 
-shared-slice-read-t13 : tie.Need-shared-slice-read-t13 Inv-loop μ-loop
-shared-slice-read-t13 c = search needs
+part-pairs-clear-start : tie.Need-part-pairs-clear-start Inv-loop μ-loop
+part-pairs-clear-start c = search needs
 
-mul-t14 : tie.Need-mul-t14 Inv-loop μ-loop
-mul-t14 c = search needs
+part-pairs-clear-end : tie.Need-part-pairs-clear-end Inv-loop μ-loop
+part-pairs-clear-end c = search needs
 
-shared-slice-read-t16 : tie.Need-shared-slice-read-t16 Inv-loop μ-loop
-shared-slice-read-t16 c = search needs
+mul-pairs-clear-2 : tie.Need-mul-pairs-clear-2 Inv-loop μ-loop
+mul-pairs-clear-2 c = search needs
 
-add-next : tie.Need-add-next Inv-loop μ-loop
-add-next c = search needs
+sub-pairs-clear-2 : tie.Need-sub-pairs-clear-2 Inv-loop μ-loop
+sub-pairs-clear-2 c = search needs
 
-mul-clear-of : tie.Need-mul-clear-of Inv-loop μ-loop
-mul-clear-of c = search needs
+part-pairs-clear-start-2 : tie.Need-part-pairs-clear-start-2 Inv-loop μ-loop
+part-pairs-clear-start-2 c = search needs
 
-sub-clear-of : tie.Need-sub-clear-of Inv-loop μ-loop
-sub-clear-of c = search needs
+part-pairs-clear-end-2 : tie.Need-part-pairs-clear-end-2 Inv-loop μ-loop
+part-pairs-clear-end-2 c = search needs
 
-part-clear-of-start : tie.Need-part-clear-of-start Inv-loop μ-loop
-part-clear-of-start c = search needs
+mul-pairs-clear-3 : tie.Need-mul-pairs-clear-3 Inv-loop μ-loop
+mul-pairs-clear-3 c = search needs
 
-part-clear-of-end : tie.Need-part-clear-of-end Inv-loop μ-loop
-part-clear-of-end c = search needs
+sub-pairs-clear-3 : tie.Need-sub-pairs-clear-3 Inv-loop μ-loop
+sub-pairs-clear-3 c = search needs
 
-mul-clear-of-2 : tie.Need-mul-clear-of-2 Inv-loop μ-loop
-mul-clear-of-2 c = search needs
+part-pairs-clear-start-3 : tie.Need-part-pairs-clear-start-3 Inv-loop μ-loop
+part-pairs-clear-start-3 c = search needs
 
-sub-clear-of-2 : tie.Need-sub-clear-of-2 Inv-loop μ-loop
-sub-clear-of-2 c = search needs
+part-pairs-clear-end-3 : tie.Need-part-pairs-clear-end-3 Inv-loop μ-loop
+part-pairs-clear-end-3 c = search needs
 
-part-clear-of-start-2 : tie.Need-part-clear-of-start-2 Inv-loop μ-loop
-part-clear-of-start-2 c = search needs
-
-part-clear-of-end-2 : tie.Need-part-clear-of-end-2 Inv-loop μ-loop
-part-clear-of-end-2 c = search needs
-
-mul-clear-of-3 : tie.Need-mul-clear-of-3 Inv-loop μ-loop
-mul-clear-of-3 c = search needs
-
-sub-clear-of-3 : tie.Need-sub-clear-of-3 Inv-loop μ-loop
-sub-clear-of-3 c = search needs
-
-part-clear-of-start-3 : tie.Need-part-clear-of-start-3 Inv-loop μ-loop
-part-clear-of-start-3 c = search needs
-
-part-clear-of-end-3 : tie.Need-part-clear-of-end-3 Inv-loop μ-loop
-part-clear-of-end-3 c = search needs
-
-clear-of-requires : tie.Need-clear-of-requires Inv-loop μ-loop
-clear-of-requires c κs = search needs
+pairs-clear-requires : tie.Need-pairs-clear-requires Inv-loop μ-loop
+pairs-clear-requires c κs = search needs
 
 returns : tie.Need-returns Inv-loop μ-loop
 returns c =
-    let a = c .before .before .before .before .before .before .before .before .before .before .before .before .before .args in
-    let l = c .before .before .before .before .before .before .before .before .before .loop in
-    let cabs = a .cabs .now in
-    let shows = a .shows .now in
-    let ends = a .ends .now in
-    let next = rows-next cabs shows ends (l .i) (omega arith) (omega arith) (omega arith) in
-    let k = l .i + 1 in
-    let rest = rw (tail-part k cabs, tail-part k shows, tail-part k ends) at (c .before .clear-of .ensures) in
-    let no = sym rest ∙ not-true _ (c .if1 .taken) in
-    sym (l .inv .1 ∙ ap rowsClear next ∙ rw no)
+    let s = c .before .before .before .before .before .before .before .before .before .before .before in
+    let l = c .before .before .before .before .before .before .before .loop in
+    let next = c .before .before .before .before .before .block-end in
+    let k = s .args .cabs .now in
+    let m = s .args .shows .now in
+    let e = s .args .ends .now in
+    let i : l .i ≤ next .result = omega (arith, next .ensures .0) in
+    let cut = clear-cut k m e (l .i) (next .result) i (s .pre .shown-each) (s .pre .end-each) in
+    let no = sym (c .before .pairs-clear .ensures) ∙ not-true _ (c .if1 .taken) in
+    sym (l .inv .1 ∙ cut ∙ rw no)
 
-loop-less : tie.Need-loop-less Inv-loop μ-loop
-loop-less c = search needs
+mul-apart : tie.Need-mul-apart Inv-loop μ-loop
+mul-apart c = search needs
 
-loop-again : tie.Need-loop-again Inv-loop μ-loop
-loop-again c =
-    let a = c .before .before .before .before .before .before .before .before .before .before .before .before .before .args in
-    let l = c .before .before .before .before .before .before .before .before .before .loop in
-    let cabs = a .cabs .now in
-    let shows = a .shows .now in
-    let ends = a .ends .now in
-    let next = rows-next cabs shows ends (l .i) (omega arith) (omega arith) (omega arith) in
-    let k = l .i + 1 in
-    let rest = rw (tail-part k cabs, tail-part k shows, tail-part k ends) at (c .before .clear-of .ensures) in
-    let passed = sym rest ∙ not-false _ (c .if1 .left) in
-    (omega arith, l .inv .1 ∙ ap rowsClear next ∙ rw passed)
+sub-apart : tie.Need-sub-apart Inv-loop μ-loop
+sub-apart c = search needs
+
+part-apart-start : tie.Need-part-apart-start Inv-loop μ-loop
+part-apart-start c = search needs
+
+part-apart-end : tie.Need-part-apart-end Inv-loop μ-loop
+part-apart-end c = search needs
+
+mul-apart-2 : tie.Need-mul-apart-2 Inv-loop μ-loop
+mul-apart-2 c = search needs
+
+sub-apart-2 : tie.Need-sub-apart-2 Inv-loop μ-loop
+sub-apart-2 c = search needs
+
+part-apart-start-2 : tie.Need-part-apart-start-2 Inv-loop μ-loop
+part-apart-start-2 c = search needs
+
+part-apart-end-2 : tie.Need-part-apart-end-2 Inv-loop μ-loop
+part-apart-end-2 c = search needs
+
+mul-apart-3 : tie.Need-mul-apart-3 Inv-loop μ-loop
+mul-apart-3 c = search needs
+
+sub-apart-3 : tie.Need-sub-apart-3 Inv-loop μ-loop
+sub-apart-3 c = search needs
+
+part-apart-start-3 : tie.Need-part-apart-start-3 Inv-loop μ-loop
+part-apart-start-3 c = search needs
+
+part-apart-end-3 : tie.Need-part-apart-end-3 Inv-loop μ-loop
+part-apart-end-3 c = search needs
+
+mul-apart-4 : tie.Need-mul-apart-4 Inv-loop μ-loop
+mul-apart-4 c = search needs
+
+sub-apart-4 : tie.Need-sub-apart-4 Inv-loop μ-loop
+sub-apart-4 c = search needs
+
+part-apart-start-4 : tie.Need-part-apart-start-4 Inv-loop μ-loop
+part-apart-start-4 c = search needs
+
+part-apart-end-4 : tie.Need-part-apart-end-4 Inv-loop μ-loop
+part-apart-end-4 c = search needs
+
+mul-apart-5 : tie.Need-mul-apart-5 Inv-loop μ-loop
+mul-apart-5 c = search needs
+
+sub-apart-5 : tie.Need-sub-apart-5 Inv-loop μ-loop
+sub-apart-5 c = search needs
+
+part-apart-start-5 : tie.Need-part-apart-start-5 Inv-loop μ-loop
+part-apart-start-5 c = search needs
+
+part-apart-end-5 : tie.Need-part-apart-end-5 Inv-loop μ-loop
+part-apart-end-5 c = search needs
+
+mul-apart-6 : tie.Need-mul-apart-6 Inv-loop μ-loop
+mul-apart-6 c = search needs
+
+sub-apart-6 : tie.Need-sub-apart-6 Inv-loop μ-loop
+sub-apart-6 c = search needs
+
+part-apart-start-6 : tie.Need-part-apart-start-6 Inv-loop μ-loop
+part-apart-start-6 c = search needs
+
+part-apart-end-6 : tie.Need-part-apart-end-6 Inv-loop μ-loop
+part-apart-end-6 c = search needs
+
+apart-requires : tie.Need-apart-requires Inv-loop μ-loop
+apart-requires c κs =
+    let s = c .before .before .before .before .before .before .before .before .before .before .before .before .before .before .before .before .before in
+    let l = c .before .before .before .before .before .before .before .before .before .before .before .before .before .loop in
+    let next = c .before .before .before .before .before .before .before .before .before .before .before .block-end .result in
+    let k = s .args .cabs .now in
+    let m = s .args .shows .now in
+    let e = s .args .ends .now in
+    (part-columns k m e (s .pre) (l .i) (next - l .i), rest-columns k m e (s .pre) next)
 
 returns-2 : tie.Need-returns-2 Inv-loop μ-loop
 returns-2 c =
+    let s = c .before .before .before .before .before .before .before .before .before .before .before .before .before .before .before .before .before .before .before in
+    let l = c .before .before .before .before .before .before .before .before .before .before .before .before .before .before .before .loop in
+    let next = c .before .before .before .before .before .before .before .before .before .before .before .before .before .block-end in
+    let k = s .args .cabs .now in
+    let m = s .args .shows .now in
+    let e = s .args .ends .now in
+    let i : l .i ≤ next .result = omega (arith, next .ensures .0) in
+    let cut = clear-cut k m e (l .i) (next .result) i (s .pre .shown-each) (s .pre .end-each) in
+    let within = sym (c .before .before .before .before .before .before .before .before .before .pairs-clear .ensures) ∙ not-false _ (c .before .before .before .before .before .before .before .before .if1 .left) in
+    let n = next .result in
+    let rest = rw (tail-part n k, tail-part n m, tail-part n e) at (c .before .apart .ensures) in
+    let no = sym rest ∙ not-true _ (c .if2 .taken) in
+    sym (l .inv .1 ∙ cut ∙ rw (within, no))
+
+loop-less : tie.Need-loop-less Inv-loop μ-loop
+loop-less c =
+    let next = c .before .before .before .before .before .before .before .before .before .before .before .before .before .block-end in
+    omega (arith, next .ensures .0, next .ensures .1)
+
+loop-again : tie.Need-loop-again Inv-loop μ-loop
+loop-again c =
+    let s = c .before .before .before .before .before .before .before .before .before .before .before .before .before .before .before .before .before .before .before in
+    let l = c .before .before .before .before .before .before .before .before .before .before .before .before .before .before .before .loop in
+    let next = c .before .before .before .before .before .before .before .before .before .before .before .before .before .block-end in
+    let k = s .args .cabs .now in
+    let m = s .args .shows .now in
+    let e = s .args .ends .now in
+    let i : l .i ≤ next .result = omega (arith, next .ensures .0) in
+    let cut = clear-cut k m e (l .i) (next .result) i (s .pre .shown-each) (s .pre .end-each) in
+    let within = sym (c .before .before .before .before .before .before .before .before .before .pairs-clear .ensures) ∙ not-false _ (c .before .before .before .before .before .before .before .before .if1 .left) in
+    let n = next .result in
+    let rest = rw (tail-part n k, tail-part n m, tail-part n e) at (c .before .apart .ensures) in
+    let passed = sym rest ∙ not-false _ (c .if2 .left) in
+    (next .ensures .1, l .inv .1 ∙ cut ∙ rw (within, passed))
+
+returns-3 : tie.Need-returns-3 Inv-loop μ-loop
+returns-3 c =
     let a = c .before .before .before .before .before .args in
     let l = c .before .loop in
     sym (l .inv .1 ∙ ap rowsClear (rows-end (a .cabs .now) (a .shows .now) (a .ends .now) (l .i) (omega arith)))
@@ -124,27 +210,47 @@ all-clear-spec =
     Inv-loop
     μ-loop
     loop-holds
-    mul-t7
-    shared-slice-read-t10
-    mul-t11
-    shared-slice-read-t13
-    mul-t14
-    shared-slice-read-t16
-    add-next
-    mul-clear-of
-    sub-clear-of
-    part-clear-of-start
-    part-clear-of-end
-    mul-clear-of-2
-    sub-clear-of-2
-    part-clear-of-start-2
-    part-clear-of-end-2
-    mul-clear-of-3
-    sub-clear-of-3
-    part-clear-of-start-3
-    part-clear-of-end-3
-    clear-of-requires
+    block-end-requires
+    mul-pairs-clear
+    sub-pairs-clear
+    part-pairs-clear-start
+    part-pairs-clear-end
+    mul-pairs-clear-2
+    sub-pairs-clear-2
+    part-pairs-clear-start-2
+    part-pairs-clear-end-2
+    mul-pairs-clear-3
+    sub-pairs-clear-3
+    part-pairs-clear-start-3
+    part-pairs-clear-end-3
+    pairs-clear-requires
     returns
+    mul-apart
+    sub-apart
+    part-apart-start
+    part-apart-end
+    mul-apart-2
+    sub-apart-2
+    part-apart-start-2
+    part-apart-end-2
+    mul-apart-3
+    sub-apart-3
+    part-apart-start-3
+    part-apart-end-3
+    mul-apart-4
+    sub-apart-4
+    part-apart-start-4
+    part-apart-end-4
+    mul-apart-5
+    sub-apart-5
+    part-apart-start-5
+    part-apart-end-5
+    mul-apart-6
+    sub-apart-6
+    part-apart-start-6
+    part-apart-end-6
+    apart-requires
+    returns-2
     loop-less
     loop-again
-    returns-2)
+    returns-3)
