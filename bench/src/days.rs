@@ -122,8 +122,8 @@ pub fn day(size: Size) -> Fixture {
 }
 
 impl Fixture {
-    /// The sheet of the standing bookings.
-    fn lay_sheet(&mut self) {
+    /// Works the sheet of the standing bookings out.
+    pub fn lay_sheet(&mut self) {
         let catalogue = Catalogue::read(&self.file).expect("the films are legal");
         let mut lists = Lists::of(&mut self.sheet, self.day.rounds).expect("the lists are long");
         lists.clear();
@@ -239,7 +239,7 @@ pub fn refused_by_memory(spikes: Spikes) -> Fixture {
             cabs: 1,
         };
     }
-    Fixture {
+    let mut fixture = Fixture {
         file,
         day: Day {
             rounds,
@@ -259,7 +259,9 @@ pub fn refused_by_memory(spikes: Spikes) -> Fixture {
             first: 0,
             last: rounds - film_rounds as u64,
         },
-    }
+    };
+    fixture.lay_sheet();
+    fixture
 }
 
 /// What refuses every start of a window of the whole day on a full day.

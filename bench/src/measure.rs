@@ -107,27 +107,44 @@ impl Default for Effort {
     }
 }
 
-fn timed(clock: fn() -> f64, call: &mut dyn FnMut(), times: usize) -> f64 {
-    let begin = clock();
-    for _ in 0..times {
-        call();
+/// A call that is timed.
+pub trait Timed {
+    /// Makes ready for a run of that many calls, outside its time.
+    fn prepare(&mut self, calls: usize);
+    fn call(&mut self);
+}
+
+/// A call that needs nothing before it.
+impl<F: FnMut()> Timed for F {
+    fn prepare(&mut self, _calls: usize) {}
+
+    fn call(&mut self) {
+        self();
     }
-    (clock() - begin) / times as f64
+}
+
+fn timed(clock: fn() -> f64, timed: &mut dyn Timed, calls: usize) -> f64 {
+    timed.prepare(calls);
+    let begin = clock();
+    for _ in 0..calls {
+        timed.call();
+    }
+    (clock() - begin) / calls as f64
 }
 
 /// Measures calls in turn: one run of each, again and again, so that what slows the machine down slows all of them. The first run
 /// of each is not counted.
-pub fn measure(clock: fn() -> f64, effort: Effort, calls: &mut [&mut dyn FnMut()]) -> Vec<Times> {
+pub fn measure(clock: fn() -> f64, effort: Effort, calls: &mut [&mut dyn Timed]) -> Vec<Times> {
     let mut repeats = Vec::new();
     for call in calls.iter_mut() {
-        let once = timed(clock, call, 1).max(1e-9);
+        let once = timed(clock, *call, 1).max(1e-9);
         repeats.push((effort.run.as_secs_f64() / once).ceil().clamp(1.0, 1e6) as usize);
     }
     let mut times = vec![Times::default(); calls.len()];
     let begin = Instant::now();
     while times[0].runs() < effort.runs || begin.elapsed() < effort.time {
         for ((call, times), &repeats) in calls.iter_mut().zip(&mut times).zip(&repeats) {
-            times.0.push(timed(clock, call, repeats));
+            times.0.push(timed(clock, *call, repeats));
         }
         if times[0].runs() >= 201 {
             break;

@@ -112,6 +112,21 @@ pub fn search_cases() -> Vec<Case> {
     ]
 }
 
+/// A full day's booking and drop that are lent a sheet of another day, here one of zeros.
+pub fn sheet_cases() -> Vec<Case> {
+    let mut fixture = day(Size {
+        rounds: 86_400,
+        bookings: 255,
+        film: 4_096,
+    });
+    fixture.sheet = Sheet::new(86_400);
+    let state = State::new(fixture);
+    vec![
+        case("book, full day", Call::Book, state.clone()),
+        case("drop, full day", Call::Drop, state),
+    ]
+}
+
 /// The journal of a day: its bookings, one of them dropped and booked again, then every round played.
 fn journal_of(fixture: &Fixture) -> Vec<u64> {
     let standing = &fixture.records[..fixture.day.count as usize];

@@ -2,7 +2,7 @@
 
 use crate::days::{opening, Fixture};
 use crate::fast::Fast;
-use crate::measure::{measure, ratio, thread_time, Effort, Times};
+use crate::measure::{measure, ratio, thread_time, Effort, Timed, Times};
 use crate::obvious::Obvious;
 use crate::scheduler::{Library, Scheduler, Sheet};
 use playback::{Booking, Line};
@@ -63,6 +63,74 @@ impl Lent {
             log: state.log.clone(),
         }
     }
+
+    /// The day's lists alone.
+    fn day_of(state: &State) -> Lent {
+        Lent {
+            records: state.fixture.records.clone(),
+            sheet: state.fixture.sheet.clone(),
+            totals: Vec::new(),
+            report: Vec::new(),
+            log: Vec::new(),
+        }
+    }
+
+    /// The day's lists as they stand in the state.
+    fn restore_day(&mut self, state: &State) {
+        let sheet = &state.fixture.sheet;
+        self.records.copy_from_slice(&state.fixture.records);
+        self.sheet.opens.copy_from_slice(&sheet.opens);
+        self.sheet.reserves.copy_from_slice(&sheet.reserves);
+        self.sheet.helds.copy_from_slice(&sheet.helds);
+    }
+}
+
+/// A call of a version again and again. Each book and each drop is lent lists of its own, as they stood before the call.
+struct Repeated<'a> {
+    version: &'a dyn Scheduler,
+    call: Call,
+    state: &'a State,
+    lent: Vec<Lent>,
+    next: usize,
+}
+
+impl<'a> Repeated<'a> {
+    fn new(version: &'a dyn Scheduler, call: Call, state: &'a State) -> Repeated<'a> {
+        Repeated {
+            version,
+            call,
+            state,
+            lent: vec![Lent::of(state)],
+            next: 0,
+        }
+    }
+}
+
+impl Timed for Repeated<'_> {
+    fn prepare(&mut self, calls: usize) {
+        if let Call::Book | Call::Drop = self.call {
+            while self.lent.len() < calls {
+                self.lent.push(Lent::day_of(self.state));
+            }
+            for lent in &mut self.lent[..calls] {
+                lent.restore_day(self.state);
+            }
+        }
+        self.next = 0;
+    }
+
+    fn call(&mut self) {
+        let state = black_box(self.state);
+        black_box(carry_out(
+            self.version,
+            self.call,
+            state,
+            &mut self.lent[self.next],
+        ));
+        if let Call::Book | Call::Drop = self.call {
+            self.next += 1;
+        }
+    }
 }
 
 /// Makes the call. What it gives is enough to tell whether two versions agree.
@@ -103,7 +171,6 @@ fn carry_out(version: &dyn Scheduler, call: Call, state: &State, lent: &mut Lent
         }
         Call::Book => version.book(file, *day, &mut lent.records, *request, &mut lent.sheet),
         Call::Drop => {
-            lent.records.copy_from_slice(records);
             let name = records[day.count as usize / 2].name;
             version.drop_booking(file, *day, &mut lent.records, name, &mut lent.sheet)
         }
@@ -165,12 +232,8 @@ pub fn contest(call: Call, state: &State, effort: Effort, try_obvious: bool) -> 
     } else {
         Slow::NotTried
     };
-    let mut library = || {
-        black_box(carry_out(&Library, call, black_box(state), &mut by_library));
-    };
-    let mut fast = || {
-        black_box(carry_out(&Fast, call, black_box(state), &mut by_fast));
-    };
+    let mut library = Repeated::new(&Library, call, state);
+    let mut fast = Repeated::new(&Fast, call, state);
     let (library, fast) = if once > LONG {
         let mut times = measure(thread_time, effort, &mut [&mut fast]);
         (Times::once(once), times.swap_remove(0))
@@ -208,9 +271,7 @@ fn obvious(call: Call, state: &State, answer: [u64; 4], expected: &Lent) -> Slow
         time: Duration::from_millis(60),
         run: Duration::from_micros(1),
     };
-    let mut again = || {
-        black_box(carry_out(&version, call, state, &mut lent));
-    };
+    let mut again = Repeated::new(&version, call, state);
     Slow::Takes(measure(thread_time, effort, &mut [&mut again])[0].median())
 }
 

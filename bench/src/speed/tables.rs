@@ -110,10 +110,12 @@ pub fn grid_tables(effort: Effort, ratios: &mut Ratios) -> Vec<(&'static str, St
                 eprintln!("bench: {name}, {bookings} bookings");
                 let state = State::new(day(size));
                 for (place, &(call_name, call)) in calls.iter().enumerate() {
-                    // A full list takes no booking, so that one stands less.
-                    let full = call == Call::Book && bookings == 256;
                     let mut state = state.clone();
-                    state.fixture.day.count -= u64::from(full);
+                    if call == Call::Book && bookings == 256 {
+                        // A full list takes no booking, so that one stands less.
+                        state.fixture.day.count -= 1;
+                        state.fixture.lay_sheet();
+                    }
                     let contest = contest(call, &state, effort, bookings <= 64);
                     ratios.put(&format!("{call_name}, {name}, {bookings}"), &contest);
                     spreads[place].push(contest.library.spread());
