@@ -191,6 +191,7 @@ pub enum Spikes {
     Early,
     Late,
     Middle,
+    Apart,
 }
 
 /// A window of the whole day of 86,400 rounds in which memory refuses every start. The day holds much in one of two or three rounds,
@@ -204,6 +205,7 @@ pub fn refused_by_memory(spikes: Spikes) -> Fixture {
         Spikes::Early => vec![5, 10],
         Spikes::Late => vec![film_rounds - 6, film_rounds - 1],
         Spikes::Middle => vec![2_048, 2_052, 2_056],
+        Spikes::Apart => vec![1, 2_048, film_rounds - 1],
     };
     let every = places.len();
     let wanted = (0..film_rounds).map(|round| if places.contains(&round) { spike } else { 1 });

@@ -109,6 +109,10 @@ pub fn search_cases() -> Vec<Case> {
             "memory refuses in three rounds in turn, in the middle",
             Spikes::Middle,
         ),
+        memory(
+            "memory refuses in three rounds in turn, far apart",
+            Spikes::Apart,
+        ),
     ]
 }
 

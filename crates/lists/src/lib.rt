@@ -1,3 +1,3 @@
-// Tests of whole lists of numbers, a list of each kind: names that differ, cabs that are clear, a disk limit that is kept.
+// Tests of whole lists of numbers, a list of each kind: names that differ, and cabs that are clear.
 pub mod cabs;
 pub mod names;
