@@ -10,8 +10,8 @@ use Rattle.films.specs.declared.types.Catalogue.{Catalogue}
 use Rattle.model.specs.Calls.{noBooking}
 use Rattle.model.specs.declared.Booking.{Booking}
 use Rattle.load.specs.Streams.{streamOf}
-use Rattle.player.specs.Table.{rowWords, withRow, Tabled}
-use Rattle.player.specs.TableLaws.{tabled-more}
+use Rattle.table.specs.Table.{rowWords, withRow, Tabled}
+use Rattle.table.specs.TableLaws.{tabled-more}
 
 -- one more row
 pub tabled-next : (c : Catalogue) (rows : List Booking) (i : ℕ) (table new : List ℕ) → i < length rows → rowWords * i + rowWords ≤ length table

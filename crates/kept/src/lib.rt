@@ -4,13 +4,13 @@ use limits::bounds::MAX_BOOKINGS;
 use load::stream::stream_of;
 use model::Booking;
 use model::Day;
-use player::table::keep;
+use table::streams::keep;
 ghost use mathlib.Core.Path.{_≡_};
 ghost use Prim.Native.Nat.{_*_, _≤_};
 ghost use lib.ListN.{length, take};
 ghost use Rattle.limits.specs.Bounds.{maxBookings};
 ghost use Rattle.playing.specs.Ready.{Ready};
-ghost use Rattle.player.specs.Table.{rowWords, Tabled};
+ghost use Rattle.table.specs.Table.{rowWords, Tabled};
 
 // Writes the table of the day's bookings.
 fn tabulate(c: Catalogue, rows: [Booking; MAX_BOOKINGS], day: Day, file: &[u8], table: &mut [u64])

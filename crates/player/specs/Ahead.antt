@@ -8,7 +8,7 @@ use lib.Dec.{leb}
 use Rattle.load.specs.Basic.{Playable}
 use Rattle.load.specs.Stream.{openIn, holdsIn}
 use Rattle.load.specs.declared.stream.Stream.{Stream}
-use Rattle.player.specs.Table.{rowWords, streamAt}
+use Rattle.table.specs.Table.{rowWords, streamAt}
 
 -- rounds ahead for which is kept what a booking holds
 abbrev pub aheadRounds : ℕ

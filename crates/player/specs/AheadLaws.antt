@@ -15,11 +15,11 @@ use Rattle.load.specs.Stream.{endOf, openIn, holdsIn, carryFrom}
 use Rattle.load.specs.StreamLaws.{open-place}
 use Rattle.load.specs.declared.stream.Stream.{Stream}
 use Rattle.sheet.specs.Memory.{Windowed, Added}
-use Rattle.player.specs.Rows.{MovedDown}
-use Rattle.player.specs.Table.{rowWords, withRow, streamAt}
+use Rattle.table.specs.Rows.{MovedDown}
+use Rattle.table.specs.Table.{rowWords, withRow, streamAt}
 use Rattle.player.specs.Ahead.{aheadRounds, Ahead, HeldBy, RowAhead, apartFrom}
-use Rattle.player.specs.ListLaws.{put, put-length, put-before, put-inside, put-after}
-use Rattle.player.specs.TableLaws.{same-stream, row-other, row-before, row-down}
+use Rattle.table.specs.ListLaws.{put, put-length, put-before, put-inside, put-after}
+use Rattle.table.specs.TableLaws.{same-stream, row-other, row-before, row-down}
 
 -- ---- one booking
 

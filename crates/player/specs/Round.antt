@@ -16,9 +16,9 @@ use Rattle.load.specs.declared.stream.Stream.{Stream}
 use Rattle.questions.specs.Given.{settingAt}
 use Rattle.playing.specs.CabLaws.{cabsIn}
 use Rattle.playing.specs.Ready.{Ready}
-use Rattle.player.specs.Table.{nameAt, streamAt, Rows, Tabled}
+use Rattle.table.specs.Table.{nameAt, streamAt, Rows, Tabled}
 use Rattle.player.specs.Ahead.{Ahead}
-use Rattle.player.specs.Words.{linesWords, Wrote}
+use Rattle.table.specs.Words.{linesWords, Wrote}
 use Rattle.player.specs.declared.report.Told.{Told}
 
 -- ---- by the table

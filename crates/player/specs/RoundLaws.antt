@@ -28,10 +28,10 @@ use Rattle.questions.specs.Tied.{Tied, tied-open}
 use Rattle.playing.specs.CabLaws.{cabsIn, cabs-tied}
 use Rattle.playing.specs.LineLaws.{line-tied, lines-open, lines-shut}
 use Rattle.playing.specs.Ready.{row-tied, row-exists, row-playable}
-use Rattle.player.specs.Table.{nameAt, streamAt, RowIs, Rows}
+use Rattle.table.specs.Table.{nameAt, streamAt, RowIs, Rows}
 use Rattle.player.specs.Ahead.{aheadRounds, Ahead}
-use Rattle.player.specs.Words.{lineWords, linesWords, Wrote}
-use Rattle.player.specs.WordLaws.{wrote-none, wrote-length, wrote-then, lines-append}
+use Rattle.table.specs.Words.{lineWords, linesWords, Wrote}
+use Rattle.table.specs.WordLaws.{wrote-none, wrote-length, wrote-then, lines-append}
 use Rattle.player.specs.Round.{heldWords, roundWords, roundCabs, roundOpen, OfDay, Opens, Reports}
 
 -- ---- how many are open

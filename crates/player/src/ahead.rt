@@ -1,17 +1,17 @@
 // What the bookings of the table hold in the rounds ahead, a row of AHEAD_ROUNDS words each.
-use crate::rows::move_down;
-use crate::table::stream_at;
 use load::stream::Stream;
 use retrieval::carry_from;
 use sheet::clear::clear;
 use sheet::memory::window_add;
+use table::rows::move_down;
+use table::streams::stream_at;
 ghost use mathlib.Core.Path.{_≡_};
 ghost use Prim.Native.Nat.{_+_, _*_, _-_, _≤_, _<_};
 ghost use lib.ListN.{length};
 ghost use Rattle.load.specs.Basic.{Playable};
 ghost use Rattle.load.specs.Stream.{carryFrom};
-ghost use Rattle.player.specs.Rows.{MovedDown};
-ghost use Rattle.player.specs.Table.{streamAt, Rows};
+ghost use Rattle.table.specs.Rows.{MovedDown};
+ghost use Rattle.table.specs.Table.{streamAt, Rows};
 ghost use Rattle.player.specs.Ahead.{aheadRounds, Ahead, Looks, HeldBy, RowAhead, apartFrom};
 
 // rounds ahead for which is kept what a booking holds

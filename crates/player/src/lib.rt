@@ -2,5 +2,3 @@
 // their streams, and what each holds in the next rounds.
 pub mod ahead;
 pub mod report;
-pub mod rows;
-pub mod table;

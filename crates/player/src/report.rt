@@ -1,21 +1,22 @@
 // The report of a round from the table and from what the bookings hold: the words of a line for each film open, and the cabs
 // served.
 use crate::ahead::AHEAD_ROUNDS;
-use crate::rows::write_four;
-use crate::table::name_at;
-use crate::table::open_at;
-use crate::table::stream_at;
 use load::stream::Stream;
 use playing::cabs::cabs_in;
 use playing::cabs::count_of;
 use retrieval::send_at;
+use table::rows::write_four;
+use table::streams::name_at;
+use table::streams::open_at;
+use table::streams::stream_at;
 ghost use mathlib.Core.Path.{_≡_};
 ghost use Prim.Native.Nat.{_+_, _*_, _≤_, _<_, min};
 ghost use lib.ListN.{length};
 ghost use Rattle.load.specs.Basic.{Playable};
 ghost use Rattle.load.specs.Stream.{endOf, holdsIn};
-ghost use Rattle.player.specs.Words.{Wrote};
-ghost use Rattle.player.specs.Round.{heldWords, Tellable, Reports};
+ghost use Rattle.table.specs.Words.{Wrote};
+ghost use Rattle.player.specs.Round.{heldWords, Opens, Tellable, Reports};
+ghost use Rattle.table.specs.Table.{Ended};
 
 // The place after the words of a round, and the count of cab bits of the films showing.
 pub struct Told {
@@ -78,4 +79,20 @@ pub fn report(
         next,
         cabs: count_of(taken),
     }
+}
+
+// The films open in round t.
+pub fn films_open(table: &[u64], count: usize, t: usize) -> usize
+    requires { ⌜ Ended count (now table) ⌝ }
+    ensures { λ r. ⌜ Opens (now (table .entry)) count t r ⌝ }
+{
+    let mut films = 0;
+    let mut i = 0;
+    while i < count {
+        if open_at(table, i, t) {
+            films += 1;
+        }
+        i += 1;
+    }
+    films
 }

@@ -16,7 +16,7 @@ use Rattle.model.specs.declared.Line.{Line}
 use Rattle.model.specs.declared.Answer.the-variants.{Refused}
 use Rattle.playing.specs.Lines.{noLine}
 use Rattle.playing.specs.Contract.{linesIn}
-use Rattle.player.specs.Words.{Wrote}
+use Rattle.table.specs.Words.{Wrote}
 use Rattle.replay.specs.Log.{answerWords, loggedWords}
 use Rattle.replay.specs.Contract.{Result}
 use Rattle.replay.specs.declared.journal.Entry.{Entry}

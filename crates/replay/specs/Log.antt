@@ -5,7 +5,7 @@ use Prim.Native.Nat.{ℕ}
 use Rattle.model.specs.declared.Line.{Line}
 use Rattle.model.specs.declared.Answer.{Answer}
 use Rattle.model.specs.declared.Answer.the-variants.{Refused, Opened, Booked, Dropped, Played}
-use Rattle.player.specs.Words.{linesWords}
+use Rattle.table.specs.Words.{linesWords}
 
 -- booked: the start; played: the films open and the cabs served
 abbrev pub answerWords : Answer → List ℕ

@@ -24,8 +24,8 @@ use Rattle.playing.specs.Lines.{padded}
 use Rattle.playing.specs.LineLaws.{take-padded}
 use Rattle.playing.specs.Ready.{Ready}
 use Rattle.playing.specs.Laws.{ownAsks, own-after, standing-ready, plays-accepted}
-use Rattle.player.specs.Table.{Tabled}
-use Rattle.player.specs.Words.{linesWords, Wrote}
+use Rattle.table.specs.Table.{Tabled}
+use Rattle.table.specs.Words.{linesWords, Wrote}
 use Rattle.player.specs.Round.{OfDay, Opens, Reports}
 use Rattle.player.specs.declared.report.Told.{Told}
 use Rattle.replay.specs.Log.{answerWords}

@@ -12,7 +12,7 @@ use Rattle.model.specs.declared.Booking.{Booking}
 use Rattle.model.specs.declared.Day.{Day}
 use Rattle.questions.specs.Given.{settingAt}
 use Rattle.questions.specs.Numbers.{standingAsks}
-use Rattle.player.specs.Table.{Tabled}
+use Rattle.table.specs.Table.{Tabled}
 use Rattle.player.specs.Ahead.{Ahead}
 use Rattle.player.specs.Round.{OfDay}
 use Rattle.replay.specs.Journal.{entryWords}

@@ -28,7 +28,7 @@ use Rattle.dropping.specs.declared.DropOutcome.{DropOutcome}
 use Rattle.playing.specs.Lines.{noLine}
 use Rattle.playing.specs.Contract.{linesIn, linesFor, Plays}
 use Rattle.playing.specs.declared.Played as Play
-use Rattle.player.specs.Words.{linesWords, Wrote}
+use Rattle.table.specs.Words.{linesWords, Wrote}
 use Rattle.replay.specs.Log.{answerWords, loggedWords}
 use Rattle.replay.specs.Writing.{wrote-then, lines-length}
 use Rattle.replay.specs.DeskRun.{blankReport, refusalOf, outcomeWords, carried, Took, Kept, Steps, asStep, TriesPlay, Refuses}

@@ -7,7 +7,7 @@ use native.Mathlib.Numerals.{add-one}
 use lib.ListN.{length, getD, take, drop, set, length-append, length-take, length-drop, take-append-drop}
 use lib.Seq.{sets-eq, take-at, drop-at, drop-drop, take-suc, length-take-le, take-append-le, take-take}
 use Rattle.model.specs.declared.Line.{Line}
-use Rattle.player.specs.Words.{lineWords, linesWords, Wrote}
+use Rattle.table.specs.Words.{lineWords, linesWords, Wrote}
 
 -- nothing
 pub wrote-none : (old : List ℕ) (at : ℕ) → Wrote old at [] old at

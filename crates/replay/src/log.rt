@@ -5,7 +5,7 @@ use model::Line;
 ghost use Prim.Native.Nat.{_+_, _*_, _≤_};
 ghost use mathlib.Core.List.{[], _∷_};
 ghost use lib.ListN.{length, take};
-ghost use Rattle.player.specs.Words.{lineWords, linesWords, Wrote};
+ghost use Rattle.table.specs.Words.{lineWords, linesWords, Wrote};
 ghost use Rattle.replay.specs.Log.{answerWords};
 
 // words of an answer

@@ -6,8 +6,8 @@ use native.Mathlib.Omega.{arith}
 use borrow.Author.Needs.{needs}
 use lib.ListN.{length, take, getD}
 use Rattle.model.specs.Calls.{noBooking}
-use Rattle.player.specs.Table.{rowWords, withRow, Tabled}
-use Rattle.player.specs.TableLaws.{tabled-none, length-written}
+use Rattle.table.specs.Table.{rowWords, withRow, Tabled}
+use Rattle.table.specs.TableLaws.{tabled-none, length-written}
 use Rattle.playing.specs.Ready.{row-playable}
 use Rattle.kept.specs.KeptLaws.{tabled-next}
 use Rattle.kept.proofs.tabulate.Statement.{statement}

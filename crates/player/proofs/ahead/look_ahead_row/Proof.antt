@@ -14,7 +14,6 @@ use Rattle.player.proofs.ahead.look_ahead_row.Statement.{statement}
 use Rattle.player.proofs.ahead.look_ahead_row.Tie as tie
 use Rattle.player.proofs.ahead.apart_from.Reads as apart-from-reads
 use Rattle.player.proofs.ahead.write_held.Reads as write-held-reads
-use Rattle.player.proofs.table.stream_at.Reads as stream-at-reads
 
 stream-at-requires : tie.Need-stream-at-requires
 stream-at-requires c κs = search needs

@@ -7,14 +7,11 @@ use borrow.Author.Needs.{needs}
 use mathlib.Core.Logic.{⊎-elim}
 use mathlib.Core.Bool.{true, false}
 use Rattle.load.specs.Stream.{openIn}
-use Rattle.player.specs.Table.{streamAt}
+use Rattle.table.specs.Table.{streamAt}
 use Rattle.player.specs.RoundLaws.{Telling, telling-none, telling-length, telling-asks, telling-open, telling-shut, tells-all}
 use Rattle.player.proofs.report.report.Statement.{statement}
 use Rattle.player.proofs.report.report.Tie as tie
 use Rattle.player.proofs.report.write_row.Reads as write-row-reads
-use Rattle.player.proofs.table.name_at.Reads as name-at-reads
-use Rattle.player.proofs.table.open_at.Reads as open-at-reads
-use Rattle.player.proofs.table.stream_at.Reads as stream-at-reads
 use Rattle.playing.proofs.cabs.cabs_in.Reads as cabs-in-reads
 use Rattle.playing.proofs.cabs.count_of.Reads as count-of-reads
 

@@ -2,13 +2,12 @@
 use Prim.Native.Nat.{ℕ, _-_}
 use mathlib.Core.Path.{subst}
 use mathlib.Core.List.{List}
-use Rattle.player.specs.Words.{Wrote}
+use Rattle.table.specs.Words.{Wrote}
 use Rattle.player.specs.RoundLaws.{line-words}
 use borrow.Author.Needs.{needs}
 use Rattle.player.proofs.report.write_row.Statement.{statement}
 use Rattle.player.proofs.report.write_row.Tie as tie
 use Rattle.player.proofs.report.smaller.Reads as smaller-reads
-use Rattle.player.proofs.rows.write_four.Reads as write-four-reads
 use Rattle.retrieval.proofs.send_at.Reads as send-at-reads
 
 sub-send-at : tie.Need-sub-send-at

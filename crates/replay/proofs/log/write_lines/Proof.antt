@@ -5,7 +5,7 @@ use Prim.Native.Nat.{_-_, _≤_}
 use native.Mathlib.Omega.{arith}
 use lib.ListN.{take}
 use borrow.Author.Needs.{needs}
-use Rattle.player.specs.Words.{linesWords, Wrote}
+use Rattle.table.specs.Words.{linesWords, Wrote}
 use Rattle.replay.specs.Writing.{wrote-none, lines-stand, lines-next}
 use Rattle.replay.proofs.log.write_lines.Statement.{statement}
 use Rattle.replay.proofs.log.write_lines.Tie as tie

@@ -13,11 +13,11 @@ use Rattle.model.specs.declared.Booking.{Booking}
 use Rattle.load.specs.Stream.{endOf}
 use Rattle.load.specs.Streams.{streamOf}
 use Rattle.load.specs.declared.stream.Stream.{Stream}
-use Rattle.player.specs.Rows.{MovedDown}
-use Rattle.player.specs.Table.{rowWords, rowOf, withRow, nameAt, streamAt, RowIs, Tabled}
-use Rattle.player.specs.Words.{Wrote}
-use Rattle.player.specs.WordLaws.{wrote-then}
-use Rattle.player.specs.ListLaws.{put-length, put-before, put-inside}
+use Rattle.table.specs.Rows.{MovedDown}
+use Rattle.table.specs.Table.{rowWords, rowOf, withRow, nameAt, streamAt, RowIs, Tabled}
+use Rattle.table.specs.Words.{Wrote}
+use Rattle.table.specs.WordLaws.{wrote-then}
+use Rattle.table.specs.ListLaws.{put-length, put-before, put-inside}
 
 -- row j of one table has the words of row i of another
 abbrev pub SameRow : List ℕ → ℕ → List ℕ → ℕ → Type 0

@@ -2,8 +2,8 @@
 ghost use mathlib.Core.List.{[], _∷_};
 ghost use Prim.Native.Nat.{_+_, _≤_};
 ghost use lib.ListN.{length};
-ghost use Rattle.player.specs.Rows.{MovedDown};
-ghost use Rattle.player.specs.Words.{Wrote};
+ghost use Rattle.table.specs.Rows.{MovedDown};
+ghost use Rattle.table.specs.Words.{Wrote};
 
 // Writes four words from `at` on.
 pub fn write_four(list: &mut [u64], at: usize, a: u64, b: u64, c: u64, d: u64) -> usize

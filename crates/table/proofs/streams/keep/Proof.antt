@@ -1,10 +1,10 @@
--- `player::table::keep` meets its contract: the row is written in two parts. Assumes nothing.
+-- `table::streams::keep` meets its contract: the row is written in two parts. Assumes nothing.
 use Prim.Native.Nat.{_-_}
-use Rattle.player.specs.TableLaws.{row-parts}
+use Rattle.table.specs.TableLaws.{row-parts}
 use borrow.Author.Needs.{needs}
-use Rattle.player.proofs.table.keep.Statement.{statement}
-use Rattle.player.proofs.table.keep.Tie as tie
-use Rattle.player.proofs.rows.write_four.Reads as write-four-reads
+use Rattle.table.proofs.streams.keep.Statement.{statement}
+use Rattle.table.proofs.streams.keep.Tie as tie
+use Rattle.table.proofs.rows.write_four.Reads as write-four-reads
 
 mul-write-four : tie.Need-mul-write-four
 mul-write-four c = search needs

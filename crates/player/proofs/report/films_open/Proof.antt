@@ -1,4 +1,4 @@
--- `player::table::films_open` meets its contract. The invariant: `films` is how many of the first i rows are open. The measure is what is left
+-- `player::report::films_open` meets its contract. The invariant: `films` is how many of the first i rows are open. The measure is what is left
 -- of the rows. Assumes nothing.
 use Prim.Native.Nat.{_-_, _≤_}
 use mathlib.Core.Path.{_≡_, sym, ap, _∙_}
@@ -7,12 +7,11 @@ use borrow.Author.Needs.{needs}
 use mathlib.Core.Logic.{⊎-elim}
 use mathlib.Core.Bool.{true, false}
 use Rattle.load.specs.Stream.{openIn}
-use Rattle.player.specs.Table.{streamAt}
+use Rattle.table.specs.Table.{streamAt}
 use Rattle.player.specs.Round.{roundOpen}
 use Rattle.player.specs.RoundLaws.{open-none, open-next, opens-all}
-use Rattle.player.proofs.table.films_open.Statement.{statement}
-use Rattle.player.proofs.table.films_open.Tie as tie
-use Rattle.player.proofs.table.open_at.Reads as open-at-reads
+use Rattle.player.proofs.report.films_open.Statement.{statement}
+use Rattle.player.proofs.report.films_open.Tie as tie
 
 abbrev Inv-loop : tie.InvT-loop
 Inv-loop table count t films₀ i₀ films i = (i ≤ count) × (films ≤ i) × (films ≡ roundOpen t table i)

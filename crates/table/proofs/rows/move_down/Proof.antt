@@ -1,13 +1,13 @@
--- `player::rows::move_down` meets its contract. The invariant: the words up to k have moved down. The measure is what is left of the words.
+-- `table::rows::move_down` meets its contract. The invariant: the words up to k have moved down. The measure is what is left of the words.
 -- Assumes nothing.
 use Prim.Native.Nat.{_-_, _≤_}
 use mathlib.Core.Path.{_≡_}
 use native.Mathlib.Omega.{arith}
 use borrow.Author.Needs.{needs}
-use Rattle.player.specs.Rows.{MovedDown}
-use Rattle.player.specs.ListLaws.{moved-none, moved-more}
-use Rattle.player.proofs.rows.move_down.Statement.{statement}
-use Rattle.player.proofs.rows.move_down.Tie as tie
+use Rattle.table.specs.Rows.{MovedDown}
+use Rattle.table.specs.ListLaws.{moved-none, moved-more}
+use Rattle.table.proofs.rows.move_down.Statement.{statement}
+use Rattle.table.proofs.rows.move_down.Tie as tie
 
 abbrev Inv-loop : tie.InvT-loop
 Inv-loop list₀ width from until k₀ list k = (from ≤ k) × (k ≤ until) × MovedDown list₀ width from k list

@@ -1,10 +1,10 @@
--- `player::rows::write_four` meets its contract: four stores one after the other. Assumes nothing.
+-- `table::rows::write_four` meets its contract: four stores one after the other. Assumes nothing.
 use native.Mathlib.Omega.{arith}
 use lib.ListN.{length-set}
-use Rattle.player.specs.WordLaws.{wrote-four}
+use Rattle.table.specs.WordLaws.{wrote-four}
 use borrow.Author.Needs.{needs}
-use Rattle.player.proofs.rows.write_four.Statement.{statement}
-use Rattle.player.proofs.rows.write_four.Tie as tie
+use Rattle.table.proofs.rows.write_four.Statement.{statement}
+use Rattle.table.proofs.rows.write_four.Tie as tie
 
 mul-list : tie.Need-mul-list
 mul-list c = search needs

@@ -1,14 +1,14 @@
--- `player::table::open_at` meets its contract: the end is that of the stream. Assumes nothing.
+-- `table::streams::open_at` meets its contract: the end is that of the stream. Assumes nothing.
 use Prim.Native.Nat.{_-_}
 use mathlib.Core.Path.{sym, ap, _∙_}
 use native.Mathlib.Omega.{arith}
 use lib.Dec.{ltb}
 use Rattle.load.specs.StreamLaws.{open-early, open-from}
-use Rattle.player.specs.Table.{streamAt}
+use Rattle.table.specs.Table.{streamAt}
 use borrow.Author.Needs.{needs}
-use Rattle.player.proofs.table.open_at.Statement.{statement}
-use Rattle.player.proofs.table.open_at.Tie as tie
-use Rattle.player.proofs.table.number.Reads as number-reads
+use Rattle.table.proofs.streams.open_at.Statement.{statement}
+use Rattle.table.proofs.streams.open_at.Tie as tie
+use Rattle.table.proofs.streams.number.Reads as number-reads
 
 mul-k : tie.Need-mul-k
 mul-k c = search needs

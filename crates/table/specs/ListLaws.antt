@@ -6,7 +6,7 @@ use native.Mathlib.Decide.{decLe}
 use native.Mathlib.Omega.{arith}
 use lib.ListN.{length, getD, set, take, drop, length-append, length-drop, length-set, List·getD-append}
 use lib.Seq.{length-take-le, getD-take, getD-drop, getD-append-add, getD-set-same, getD-set-other}
-use Rattle.player.specs.Rows.{MovedDown}
+use Rattle.table.specs.Rows.{MovedDown}
 
 -- ---- n words from place a on
 

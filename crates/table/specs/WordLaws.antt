@@ -6,7 +6,7 @@ use native.Mathlib.Omega.{arith}
 use lib.ListN.{length, take, drop, set, length-append, length-take, length-drop, take-append-drop}
 use lib.Seq.{sets-eq, take-at, drop-at, drop-drop}
 use Rattle.model.specs.declared.Line.{Line}
-use Rattle.player.specs.Words.{lineWords, linesWords, Wrote}
+use Rattle.table.specs.Words.{lineWords, linesWords, Wrote}
 
 -- nothing
 pub wrote-none : (old : List ℕ) (at : ℕ) → Wrote old at [] old at

@@ -7,9 +7,8 @@ ghost use Prim.Native.Nat.{_+_, _*_, _-_, _≤_, _<_};
 ghost use lib.ListN.{length};
 ghost use Rattle.load.specs.Basic.{Bounded};
 ghost use Rattle.load.specs.Stream.{openIn, endOf};
-ghost use Rattle.player.specs.Rows.{MovedDown};
-ghost use Rattle.player.specs.Table.{rowWords, nameAt, streamAt, endAt, withRow, Ended};
-ghost use Rattle.player.specs.Round.{Opens};
+ghost use Rattle.table.specs.Rows.{MovedDown};
+ghost use Rattle.table.specs.Table.{rowWords, nameAt, streamAt, endAt, withRow, Ended};
 
 // words of a row
 pub const ROW_WORDS: usize = 8;
@@ -90,20 +89,4 @@ pub fn open_at(table: &[u64], i: usize, t: usize) -> bool
         return false;
     }
     t < number(table[k + 7])
-}
-
-// The films open in round t.
-pub fn films_open(table: &[u64], count: usize, t: usize) -> usize
-    requires { ⌜ Ended count (now table) ⌝ }
-    ensures { λ r. ⌜ Opens (now (table .entry)) count t r ⌝ }
-{
-    let mut films = 0;
-    let mut i = 0;
-    while i < count {
-        if open_at(table, i, t) {
-            films += 1;
-        }
-        i += 1;
-    }
-    films
 }

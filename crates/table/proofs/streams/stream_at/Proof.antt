@@ -1,11 +1,11 @@
--- `player::table::stream_at` meets its contract: the row's words stand below the table's length. Assumes nothing.
+-- `table::streams::stream_at` meets its contract: the row's words stand below the table's length. Assumes nothing.
 use Prim.Native.Nat.{_+_, _-_, _*_}
 use lib.ListN.{getD}
-use Rattle.player.specs.Table.{rowWords, streamAt}
+use Rattle.table.specs.Table.{rowWords, streamAt}
 use borrow.Author.Needs.{needs}
-use Rattle.player.proofs.table.stream_at.Statement.{statement}
-use Rattle.player.proofs.table.stream_at.Tie as tie
-use Rattle.player.proofs.table.number.Reads as number-reads
+use Rattle.table.proofs.streams.stream_at.Statement.{statement}
+use Rattle.table.proofs.streams.stream_at.Tie as tie
+use Rattle.table.proofs.streams.number.Reads as number-reads
 
 mul-k : tie.Need-mul-k
 mul-k c = search needs
