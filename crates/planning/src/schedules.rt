@@ -1,14 +1,13 @@
 // The just-in-time totals of a film, written to a lent list.
 ghost use mathlib.Core.Path.{_≡_};
 ghost use mathlib.Core.List.{_++_};
-ghost use Prim.Native.Nat.{_+_, _≤_};
+ghost use Prim.Native.Nat.{_+_};
 ghost use lib.ListN.{length, drop};
 ghost use Rattle.laws.specs.Sums.{sum};
 ghost use Rattle.films.specs.Sizes.{sizes, Stored};
 ghost use Rattle.retrieval.specs.JustInTime.{justInTime};
 ghost use Rattle.retrieval.specs.Carry.{carry};
 ghost use Rattle.retrieval.specs.Stored.{sendsAt};
-ghost use Rattle.retrieval.specs.Sheet.{onto, waiting};
 ghost use Rattle.retrieval.specs.SheetLaws.{ontoFrom};
 ghost use Rattle.planning.specs.Written.{Writes};
 ghost use Rattle.planning.specs.Answers.{Planned, scheduled, scheduleOut};
@@ -26,7 +25,7 @@ use limits::refusals::RESERVE;
 use retrieval::Total;
 use retrieval::carry_before;
 use retrieval::film_total;
-use retrieval::less;
+use retrieval::write_waiting;
 
 // The answer of a call for a schedule: a refusal's number, or how many totals are written.
 pub enum Scheduled {
@@ -61,27 +60,13 @@ fn write_shown(
     c
 }
 
-// Writes the totals of p pre-fetch rounds to the first places, where c is the carry of the rounds after them.
-fn write_ahead(out: &mut [u64], p: usize, b: u64, c: u64)
-    requires { ⌜ p ≤ length (now out) ⌝ }
-    ensures { λ _. ⌜ now (out .exit) ≡ onto (λ x a. a) (now (out .entry)) (waiting b c p) ⌝ }
-{
-    let mut left = c;
-    let mut k = p;
-    while 0 < k {
-        k -= 1;
-        out[k] = left;
-        left = less(left, b);
-    }
-}
-
-// Writes the just-in-time totals of a film to the first p + n places of the list.
+// Writes the just-in-time totals of a film to the first p + n places of the list; a pre-fetch round's is what it holds.
 fn write_totals(out: &mut [u64], file: &[u8], at: usize, n: usize, p: usize, b: u64, total: u64)
     requires { ⌜ (Writes (now out) (now file) at n p b) × (total ≡ sum (sizes (now file) at n)) ⌝ }
     ensures { λ _. ⌜ now (out .exit) ≡ justInTime b 0 (sendsAt (now (file .entry)) at n p) ++ drop (p + n) (now (out .entry)) ⌝ }
 {
     let left = write_shown(out, file, at, n, p, b, total);
-    write_ahead(out, p, b, left);
+    write_waiting(out, p, b, left);
 }
 
 // The answer for a film whose n sizes stand at an offset of the file. Nothing is written before the last question is put.

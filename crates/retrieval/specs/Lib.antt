@@ -17,4 +17,5 @@ pub mod ReserveLaws
 pub mod Pace
 pub mod SheetLaws
 pub mod Parts
+pub mod Written
 pub mod Tests

@@ -2,18 +2,19 @@
 // Each is one pass over the sizes, with no buffer. The film's n sizes stand at offset `at`, p is its pre-fetch rounds
 // and b its reserve in bytes per round; rounds are counted from its start.
 ghost use mathlib.Core.Path.{_≡_};
+ghost use mathlib.Core.List.{_++_};
 ghost use Prim.Native.Nat.{_+_, _-_, _*_, _^_, _≤_, _<_, min, max};
-ghost use lib.ListN.{length, getD, drop};
+ghost use lib.ListN.{length, getD, take, drop};
 ghost use Rattle.limits.specs.Bounds.{maxSize};
 ghost use Rattle.laws.specs.Sums.{sum};
 ghost use Rattle.films.specs.Sizes.{sizes, Stored};
 ghost use Rattle.retrieval.specs.Schedule.{peak};
 ghost use Rattle.retrieval.specs.JustInTime.{justInTime, existsBy};
-ghost use Rattle.retrieval.specs.Carry.{carry};
+ghost use Rattle.retrieval.specs.Carry.{carry, profile};
 ghost use Rattle.retrieval.specs.Pace.{totalIf};
 ghost use Rattle.retrieval.specs.Stored.{sendsAt, InRange, maxHeld};
-ghost use Rattle.retrieval.specs.Sheet.{plus, Room, heldIn, waiting, Adds};
-ghost use Rattle.retrieval.specs.SheetLaws.{plusFrom};
+ghost use Rattle.retrieval.specs.Sheet.{onto, plus, Room, heldIn, waiting, Adds};
+ghost use Rattle.retrieval.specs.SheetLaws.{ontoFrom, plusFrom};
 ghost use Rattle.retrieval.specs.Round.{roundOf};
 use films::words::size_at;
 use std::num::wrapping_add_u64;
@@ -232,6 +233,60 @@ pub fn add_held(
     let m = first_shown(p, a, e);
     let left = add_shown(part, file, at, n, p, b, a, m, e, c);
     add_waiting(part, m - a, b, left)
+}
+
+// `write_profile` of the rounds that show. Gives the carry of them all.
+fn write_shown(part: &mut [u64], file: &[u8], at: usize, n: usize, p: usize, b: u64) -> u64
+    requires { ⌜ (InRange (now file) at n p b) × (p + n ≤ length (now part)) ⌝ }
+    ensures { λ r. ⌜ (now (part .exit) ≡ ontoFrom p (λ x h. h) (now (part .entry)) (profile b (sendsAt (now (file .entry)) at n p))) × (r ≡ carry b (sizes (now (file .entry)) at n)) ⌝ }
+{
+    let mut left: u64 = 0;
+    let mut j = n;
+    while 0 < j {
+        j -= 1;
+        let x = size_at(file, at + 4 * j);
+        part[p + j] = x + left;
+        left = carry_before(x, left, b);
+    }
+    left
+}
+
+// Writes what m rounds that send nothing hold to the first m places of a lent list, where c is the carry of the rounds after
+// them. Gives the carry before them.
+pub fn write_waiting(part: &mut [u64], m: usize, b: u64, c: u64) -> u64
+    requires { ⌜ m ≤ length (now part) ⌝ }
+    ensures { λ r. ⌜ (now (part .exit) ≡ onto (λ x h. h) (now (part .entry)) (waiting b c m)) × (r ≡ c - m * b) ⌝ }
+{
+    let mut left = c;
+    let mut k = m;
+    while 0 < k {
+        k -= 1;
+        part[k] = left;
+        left = less(left, b);
+    }
+    left
+}
+
+// Writes what the film holds in each of its p + n rounds to the first places of a lent list, whatever stood there. Does a
+// schedule exist?
+pub fn write_profile(part: &mut [u64], file: &[u8], at: usize, n: usize, p: usize, b: u64) -> bool
+    requires { ⌜ (InRange (now file) at n p b) × (p + n ≤ length (now part)) ⌝ }
+    ensures { λ r. ⌜ (now (part .exit) ≡ profile b (sendsAt (now (file .entry)) at n p) ++ drop (p + n) (now (part .entry))) × (r ≡ existsBy b (sendsAt (now (file .entry)) at n p)) ⌝ }
+{
+    let left = write_shown(part, file, at, n, p, b);
+    write_waiting(part, p, b, left) == 0
+}
+
+// Adds the first n numbers of a profile to the first n places of a lent list.
+pub fn add_profile(part: &mut [u64], profile: &[u64], n: usize)
+    requires { ⌜ (n ≤ length (now part)) × (n ≤ length (now profile)) × Room (now part) (take n (now profile)) ⌝ }
+    ensures { λ _. ⌜ now (part .exit) ≡ plus (now (part .entry)) (take n (now (profile .entry))) ⌝ }
+{
+    let mut t = 0;
+    while t < n {
+        part[t] = part[t] + profile[t];
+        t += 1;
+    }
 }
 
 // What the film reads, sends and holds in round t.

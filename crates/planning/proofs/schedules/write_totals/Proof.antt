@@ -19,8 +19,8 @@ use Rattle.planning.proofs.schedules.write_totals.Tie as tie
 write-shown-requires : tie.Need-write-shown-requires
 write-shown-requires c κs = search needs
 
-write-ahead-requires : tie.Need-write-ahead-requires
-write-ahead-requires c κs = search needs
+write-waiting-requires : tie.Need-write-waiting-requires
+write-waiting-requires c κs = search needs
 
 same-length : tie.Need-same-length
 same-length c = search needs
@@ -33,12 +33,12 @@ returns c =
     let xs = sendsAt s (a .at) (a .n) (a .p) in
     let all = justInTime (a .b) 0 xs in
     let shown = c .before .before .before .before .before .before .write-shown in
-    let ahead = c .before .before .write-ahead in
+    let ahead = c .before .before .write-waiting in
     let parts : ahead .last .0 ≡ onto (λ x r. r) (ontoFrom (a .p) (λ x r. r) (a .out .now) all) (take (a .p) all) =
-    rw (shown .ensures .0, shown .ensures .1, ahead-totals (a .b) (a .p) (sizes s (a .at) (a .n))) at (ahead .ensures) in
+    rw (shown .ensures .0, shown .ensures .1, ahead-totals (a .b) (a .p) (sizes s (a .at) (a .n))) at (ahead .ensures .0) in
     written (a .p + a .n) all (a .out .now) (ahead .last .0)
     (omega (arith, length-justInTime (a .b) 0 xs, length-sendsAt s (a .at) (a .n) (a .p))) (start .pre .0 .places)
     (parts ∙ onto-parts (a .p) (λ x r. r) (a .out .now) all)
 
 pub write-totals-spec : {M : Type 1} → statement M
-write-totals-spec = tie.close (tie.spec write-shown-requires write-ahead-requires same-length returns)
+write-totals-spec = tie.close (tie.spec write-shown-requires write-waiting-requires same-length returns)
