@@ -1,6 +1,6 @@
 -- What the bookings hold in the rounds ahead, booking by booking. Assumes nothing.
 use mathlib.Core.Path.{_≡_, refl, sym, ap, _∙_}
-use mathlib.Core.Bool.{Bool, true, false, cond}
+use mathlib.Core.Bool.{Bool, true, false, cond, true≢false}
 use mathlib.Core.List.{List, [], _++_, append-assoc, append-nil}
 use Prim.Native.Nat.{ℕ, _+_, _-_, _*_, _≤_, _<_}
 use native.Mathlib.Decide.{decLe}
@@ -12,7 +12,7 @@ use borrow.Rule.Slice.PartMut.{putMid, post-is}
 use Rattle.retrieval.specs.Stored.{largest-bound}
 use Rattle.load.specs.Basic.{Playable}
 use Rattle.load.specs.Stream.{endOf, openIn, holdsIn, carryFrom}
-use Rattle.load.specs.StreamLaws.{open-place}
+use Rattle.load.specs.StreamLaws.{open-early, open-late}
 use Rattle.load.specs.declared.stream.Stream.{Stream}
 use Rattle.sheet.specs.Memory.{Windowed, Added}
 use Rattle.table.specs.Rows.{MovedDown}
@@ -67,16 +67,25 @@ module _ (f : List ℕ) (x : Stream) (part : List ℕ) (from to : ℕ) (order : 
             omega (arith, a .held t u v);
       }
 
+-- a stream apart from the rounds is open in none of them
+pub apart-shut : (x : Stream) (from to : ℕ) → apartFrom (x .start) (endOf x) from to ≡ true → (t : ℕ) → from ≤ t → t < to → openIn t x ≡ false
+unfolding apartFrom
+apart-shut x from to e t u v = go (leb to (x .start)) refl e
+  where
+    go : (b : Bool) → leb to (x .start) ≡ b → cond b true (leb (endOf x) from) ≡ true → openIn t x ≡ false
+    go true p q = open-early t x (omega (arith, leb-true to (x .start) p))
+    go false p q = open-late t x (omega (arith, leb-true (endOf x) from q))
+
 module _ (f : List ℕ) (x : Stream) (from to place : ℕ) (order : from ≤ to) (old : List ℕ) where
   -- it is open in none of the rounds
   pub row-apart : apartFrom (x .start) (endOf x) from to ≡ true → RowAhead f x from to place old old
-  unfolding apartFrom
   row-apart e =
-      record { same = refl; held = λ t u v o. absurd (go (leb to (x .start)) refl e t u v o); before = λ k u. refl; after = λ k u. refl }
-    where
-      go : (b : Bool) → leb to (x .start) ≡ b → cond b true (leb (endOf x) from) ≡ true → (t : ℕ) → from ≤ t → t < to → openIn t x ≡ true → ⊥
-      go true p q t u v o = omega (arith, leb-true to (x .start) p, open-place t x o)
-      go false p q t u v o = omega (arith, leb-true (endOf x) from q, open-place t x o)
+      record {
+        same = refl;
+        held = λ t u v o. absurd (true≢false (sym o ∙ apart-shut x from to e t u v));
+        before = λ k u. refl;
+        after = λ k u. refl;
+      }
 
   -- it is open in one of them: it has started by the last
   pub row-started : apartFrom (x .start) (endOf x) from to ≡ false → x .start ≤ to

@@ -68,18 +68,22 @@ open-up t table i n h =
 -- ---- the words and the cabs
 
 module _ (f : List ℕ) (t : ℕ) (table : List ℕ) (i : ℕ) where
-  -- a row that is open has the next line
+  -- one more row
+  pub words-next : roundWords f t table (i + 1)
+      ≡ roundWords f t table i ++ cond (openIn t (streamAt table i)) (heldWords f t (nameAt table i) (streamAt table i)) []
+  unfolding roundWords
+  words-next = rw add-one
+
+  -- one that is open has the next line
   words-open : openIn t (streamAt table i) ≡ true
       → roundWords f t table (i + 1) ≡ roundWords f t table i ++ heldWords f t (nameAt table i) (streamAt table i)
-  unfolding roundWords
-  words-open o = rw (add-one, o)
+  words-open o = rw (words-next, o)
 
   -- another has none
-  words-shut : openIn t (streamAt table i) ≡ false → roundWords f t table (i + 1) ≡ roundWords f t table i
-  unfolding roundWords
-  words-shut o = rw (add-one, o) (append-nil (roundWords f t table i))
+  pub words-shut : openIn t (streamAt table i) ≡ false → roundWords f t table (i + 1) ≡ roundWords f t table i
+  words-shut o = rw (words-next, o) (append-nil (roundWords f t table i))
 
-cabs-next : (t : ℕ) (table : List ℕ) (i : ℕ) → roundCabs t table (i + 1) ≡ bitOr (roundCabs t table i) (cabsIn t (streamAt table i))
+pub cabs-next : (t : ℕ) (table : List ℕ) (i : ℕ) → roundCabs t table (i + 1) ≡ bitOr (roundCabs t table i) (cabsIn t (streamAt table i))
 unfolding roundCabs
 cabs-next t table i = rw add-one
 
@@ -97,6 +101,11 @@ cabs-none t x e = go (showsIn t x) refl
     go : (v : Bool) → showsIn t x ≡ v → cond v (x .cabs) 0 ≡ 0
     go true s = let d = shown s in let z : _≡_ {A = ℕ} 0 1 = cc in absurd (omega arith)
     go false s = refl
+
+-- nor does a row that is not
+pub cabs-shut : (t : ℕ) (table : List ℕ) (i : ℕ) → openIn t (streamAt table i) ≡ false → roundCabs t table (i + 1) ≡ roundCabs t table i
+cabs-shut t table i o =
+    cabs-next t table i ∙ ap (bitOr (roundCabs t table i)) (cabs-none t (streamAt table i) o) ∙ or-zero-r (roundCabs t table i)
 
 -- the words of the first i rows were written from `at` on, up to `next`, and `taken` has their cabs
 pub record Telling (f table : List ℕ) (n t : ℕ) (old : List ℕ) (at : ℕ) (new : List ℕ) (next taken i : ℕ) : Type 0 where
@@ -161,13 +170,7 @@ module _ (f table : List ℕ) (n t : ℕ) (old : List ℕ) (at : ℕ) (room : at
             some = omega arith;
             words = rw more (w .words);
             number = rw more (omega (arith, w .number, open-next t table i false o));
-            cabs =
-                w .cabs
-                ∙ sym (
-                cabs-next t table i
-                ∙ ap (bitOr (roundCabs t table i)) (cabs-none t (streamAt table i) o)
-                ∙ or-zero-r (roundCabs t table i)
-                );
+            cabs = w .cabs ∙ sym (cabs-shut t table i o);
           })
         where
           more : roundWords f t table (i + 1) ≡ roundWords f t table i

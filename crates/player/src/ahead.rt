@@ -43,7 +43,7 @@ fn write_held(file: &[u8], x: Stream, part: &mut [u64], from: usize, to: usize)
 }
 
 // Whether a booking is open in none of the rounds from `from` to `to` - 1, by its start and its end.
-fn apart_from(start: usize, end: usize, from: usize, to: usize) -> bool
+pub fn apart_from(start: usize, end: usize, from: usize, to: usize) -> bool
     ensures { λ r. ⌜ r ≡ apartFrom start end from to ⌝ }
 {
     if to <= start {
