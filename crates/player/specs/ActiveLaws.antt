@@ -7,18 +7,25 @@ use Prim.Native.Nat.{ℕ, zero, suc, _+_, _*_, _≤_, _<_}
 use native.Mathlib.Decide.{decLe}
 use native.Mathlib.Nat.{add-zero}
 use native.Mathlib.Omega.{arith}
-use lib.ListN.{length, getD}
+use lib.ListN.{length, getD, take}
 use lib.Bits.{bitOr}
+use Rattle.films.specs.declared.types.Catalogue.{Catalogue}
+use Rattle.model.specs.Calls.{cabsJoined}
+use Rattle.model.specs.Report.{linesOf}
+use Rattle.model.specs.declared.Booking.{Booking}
+use Rattle.model.specs.declared.Day.{Day}
 use Rattle.load.specs.Basic.{Playable}
 use Rattle.load.specs.Stream.{endOf, openIn}
 use Rattle.load.specs.declared.stream.Stream.{Stream}
+use Rattle.questions.specs.Given.{settingAt}
 use Rattle.playing.specs.CabLaws.{cabsIn}
 use Rattle.table.specs.Table.{rowWords, withRow, nameAt, streamAt, endAt, RowIs, Ended, Rows}
+use Rattle.table.specs.Words.{linesWords}
 use Rattle.table.specs.TableLaws.{SameRow, same-stream, row-written, length-written, row-other}
 use Rattle.player.specs.Ahead.{apartFrom}
 use Rattle.player.specs.AheadLaws.{apart-shut}
-use Rattle.player.specs.Round.{heldWords, roundWords, roundCabs, roundOpen}
-use Rattle.player.specs.RoundLaws.{words-next, words-shut, cabs-next, cabs-shut, open-next}
+use Rattle.player.specs.Round.{heldWords, roundWords, roundCabs, roundOpen, OfDay}
+use Rattle.player.specs.RoundLaws.{words-next, words-shut, cabs-next, cabs-shut, open-next, day-words, day-open, day-cabs}
 use Rattle.player.specs.Active.{Active}
 
 -- ---- two tables with the same rows
@@ -62,6 +69,18 @@ active-none table from to active =
       words = λ f t u v. refl;
       cabs = λ t u v. refl;
       films = λ t u v. refl;
+    }
+
+-- of fewer rounds
+pub active-until : (table : List ℕ) (count from to : ℕ) (active : List ℕ) (n : ℕ) → Active table count from to active n → (e : ℕ) → e ≤ to
+    → Active table count from e active n
+active-until table count from to active n w e h =
+    record {
+      few = w .few;
+      rows = w .rows;
+      words = λ f t u v. w .words f t u (omega arith);
+      cabs = λ t u v. w .cabs t u (omega arith);
+      films = λ t u v. w .films t u (omega arith);
     }
 
 -- the first of more rows
@@ -126,3 +145,17 @@ module _ (table : List ℕ) (i from to : ℕ) (active : List ℕ) (n : ℕ) (w :
           playable : (j : ℕ) → Dec (n ≤ j) → j < n + 1 → Playable f (streamAt new j)
           playable j (no z) u = rw (same-stream new j active j (front j (omega arith))) (r .playable j (omega arith))
           playable j (yes z) u = let q : j ≡ n = omega arith in rw (q, copy .stream-is) (all .playable i (omega arith))
+
+-- ---- the bookings of a day
+
+-- in the rounds for which they are selected, the active bookings tell the day's report
+module _ (f : List ℕ) (c : Catalogue) (day : Day) (rows : List Booking) (count : ℕ) (table : List ℕ) (of : OfDay f c day rows count table)
+    (from to : ℕ) (active : List ℕ) (n : ℕ) (w : Active table count from to active n) (t : ℕ) (u : from ≤ t) (v : t < to) where
+  pub report-words : roundWords f t active n ≡ linesWords (linesOf (settingAt f day) t (take (day .count) rows))
+  report-words = w .words f t u v ∙ day-words f c day rows count table of t
+
+  pub report-films : roundOpen t active n ≡ length (linesOf (settingAt f day) t (take (day .count) rows))
+  report-films = w .films t u v ∙ day-open f c day rows count table of t
+
+  pub report-cabs : roundCabs t active n ≡ cabsJoined (settingAt f day) t 0 (take (day .count) rows)
+  report-cabs = w .cabs t u v ∙ day-cabs f c day rows count table of t

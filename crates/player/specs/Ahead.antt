@@ -10,27 +10,27 @@ use Rattle.load.specs.Stream.{openIn, holdsIn}
 use Rattle.load.specs.declared.stream.Stream.{Stream}
 use Rattle.table.specs.Table.{rowWords, streamAt}
 
--- rounds ahead for which is kept what a booking holds
-abbrev pub aheadRounds : ℕ
-aheadRounds = 32
+-- rounds ahead, at most
+abbrev pub mostAhead : ℕ
+mostAhead = 256
 
--- place aheadRounds * i + (t - from) has what booking i holds in round t, for each of the first n bookings and each of the rounds
--- from `from` to `to` - 1 in which it is open
-pub record Ahead (f table : List ℕ) (n from to : ℕ) (ahead : List ℕ) : Type 0 where
-  pub size : aheadRounds * n ≤ length ahead
-  pub few : to ≤ from + aheadRounds
+-- place width * i + (t - from) has what booking i holds in round t, for each of the first n bookings and each of the rounds from
+-- `from` to `to` - 1 in which it is open
+pub record Ahead (f table : List ℕ) (n width from to : ℕ) (ahead : List ℕ) : Type 0 where
+  pub size : width * n ≤ length ahead
+  pub few : to ≤ from + width
   pub held : (i t : ℕ) → i < n → from ≤ t → t < to → openIn t (streamAt table i) ≡ true
-      → getD ahead (aheadRounds * i + (t - from)) 0 ≡ holdsIn f t (streamAt table i)
+      → getD ahead (width * i + (t - from)) 0 ≡ holdsIn f t (streamAt table i)
 
 -- ---- one booking
 
 -- what is asked to work out the words of booking i
-pub record Looks (f table : List ℕ) (i : ℕ) (ahead : List ℕ) (from to : ℕ) : Type 0 where
+pub record Looks (f table : List ℕ) (i width : ℕ) (ahead : List ℕ) (from to : ℕ) : Type 0 where
   pub row : rowWords * i + rowWords ≤ length table
   pub playable : Playable f (streamAt table i)
   pub order : from ≤ to
-  pub few : to ≤ from + aheadRounds
-  pub size : aheadRounds * i + aheadRounds ≤ length ahead
+  pub few : to ≤ from + width
+  pub size : width * i + width ≤ length ahead
 
 -- a list of words has what the stream x holds in the rounds from `from` to `to` - 1
 pub record HeldBy (f : List ℕ) (x : Stream) (from to : ℕ) (part : List ℕ) : Type 0 where

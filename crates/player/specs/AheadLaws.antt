@@ -4,6 +4,8 @@ use mathlib.Core.Bool.{Bool, true, false, cond, true≢false}
 use mathlib.Core.List.{List, [], _++_, append-assoc, append-nil}
 use Prim.Native.Nat.{ℕ, _+_, _-_, _*_, _≤_, _<_}
 use native.Mathlib.Decide.{decLe}
+use native.Mathlib.Nat.{mul-zero, mul-suc, mul-le-mul-left}
+use native.Mathlib.Numerals.{add-one}
 use native.Mathlib.Omega.{arith}
 use lib.Dec.{leb}
 use lib.ListN.{length, getD, take, drop, replicate, length-replicate, getD-replicate, drop-of-length-le, List·getD-eq-default}
@@ -17,7 +19,7 @@ use Rattle.load.specs.declared.stream.Stream.{Stream}
 use Rattle.sheet.specs.Memory.{Windowed, Added}
 use Rattle.table.specs.Rows.{MovedDown}
 use Rattle.table.specs.Table.{rowWords, withRow, streamAt}
-use Rattle.player.specs.Ahead.{aheadRounds, Ahead, HeldBy, RowAhead, apartFrom}
+use Rattle.player.specs.Ahead.{Ahead, HeldBy, RowAhead, apartFrom}
 use Rattle.table.specs.ListLaws.{put, put-length, put-before, put-inside, put-after}
 use Rattle.table.specs.TableLaws.{same-stream, row-other, row-before, row-down}
 
@@ -115,59 +117,66 @@ module _ (f : List ℕ) (x : Stream) (from to place : ℕ) (order : from ≤ to)
 
 -- ---- the first n bookings
 
+-- the words of booking i stand before those of the next
+pub row-next : (width i : ℕ) → width * (i + 1) ≡ width * i + width
+row-next width i = ap (λ (k : ℕ). width * k) (add-one i) ∙ mul-suc width i
+
+pub row-within : (width i n : ℕ) → i < n → width * i + width ≤ width * n
+row-within width i n h = let u : i + 1 ≤ n = omega arith in omega (arith, row-next width i, mul-le-mul-left width u)
+
 -- of no booking
-pub ahead-start : (f table : List ℕ) (from to : ℕ) (ahead : List ℕ) → to ≤ from + aheadRounds → Ahead f table 0 from to ahead
-ahead-start f table from to ahead h = record { size = omega arith; few = h; held = λ i t u v w o. absurd (omega arith) }
+pub ahead-start : (f table : List ℕ) (width from to : ℕ) (ahead : List ℕ) → to ≤ from + width → Ahead f table 0 width from to ahead
+ahead-start f table width from to ahead h = record { size = omega (arith, mul-zero width); few = h; held = λ i t u v w o. absurd (omega arith) }
 
 -- of no round
-pub ahead-none : (f table : List ℕ) (n from : ℕ) (ahead : List ℕ) → aheadRounds * n ≤ length ahead → Ahead f table n from from ahead
-ahead-none f table n from ahead h = record { size = h; few = omega arith; held = λ i t u v w o. absurd (omega arith) }
+pub ahead-none : (f table : List ℕ) (n width from : ℕ) (ahead : List ℕ) → width * n ≤ length ahead → Ahead f table n width from from ahead
+ahead-none f table n width from ahead h = record { size = h; few = omega arith; held = λ i t u v w o. absurd (omega arith) }
 
-module _ (f table : List ℕ) (n from to : ℕ) (ahead : List ℕ) (a : Ahead f table n from to ahead) where
+module _ (f table : List ℕ) (n width from to : ℕ) (ahead : List ℕ) (a : Ahead f table n width from to ahead) where
   -- of fewer rounds
-  pub ahead-until : (e : ℕ) → e ≤ to → Ahead f table n from e ahead
+  pub ahead-until : (e : ℕ) → e ≤ to → Ahead f table n width from e ahead
   ahead-until e h =
       record { size = a .size; few = omega (arith, a .few); held = λ i t u v w o. a .held i t u v (omega arith) o }
 
   -- with another table that has the same streams
-  pub ahead-same : (new : List ℕ) → ((i : ℕ) → i < n → streamAt new i ≡ streamAt table i) → Ahead f new n from to ahead
+  pub ahead-same : (new : List ℕ) → ((i : ℕ) → i < n → streamAt new i ≡ streamAt table i) → Ahead f new n width from to ahead
   ahead-same new s =
       record { size = a .size; few = a .few; held = λ i t u v w o. rw (s i u) (a .held i t u v w (rw (s i u) at o)) }
 
   -- with a row written after those of the n bookings
-  pub ahead-kept : (name : ℕ) (x : Stream) → rowWords * n + rowWords ≤ length table → Ahead f (withRow table n name x) n from to ahead
+  pub ahead-kept : (name : ℕ) (x : Stream) → rowWords * n + rowWords ≤ length table → Ahead f (withRow table n name x) n width from to ahead
   ahead-kept name x h =
       ahead-same (withRow table n name x) (λ i u. same-stream (withRow table n name x) i table i (row-other table n name x h i u))
 
   -- one more booking: its row is the next, and its words are worked out
-  pub ahead-more : (new : List ℕ) → aheadRounds * n + aheadRounds ≤ length ahead
-      → RowAhead f (streamAt table n) from to (aheadRounds * n) ahead new → Ahead f table (n + 1) from to new
+  pub ahead-more : (new : List ℕ) → width * n + width ≤ length ahead
+      → RowAhead f (streamAt table n) from to (width * n) ahead new → Ahead f table (n + 1) width from to new
   ahead-more new h r =
-      record { size = omega (arith, r .same); few = a .few; held = λ i t u v w o. go i t (decLe n i) u v w o }
+      record { size = omega (arith, r .same, row-next width n); few = a .few; held = λ i t u v w o. go i t (decLe n i) u v w o }
     where
       go : (i t : ℕ) → Dec (n ≤ i) → i < n + 1 → from ≤ t → t < to → openIn t (streamAt table i) ≡ true
-          → getD new (aheadRounds * i + (t - from)) 0 ≡ holdsIn f t (streamAt table i)
+          → getD new (width * i + (t - from)) 0 ≡ holdsIn f t (streamAt table i)
       go i t (no z) u v w o =
-          r .before (aheadRounds * i + (t - from)) (omega (arith, a .few)) ∙ a .held i t (omega arith) v w o
+          r .before (width * i + (t - from)) (omega (arith, a .few, row-within width i n (omega arith))) ∙ a .held i t (omega arith) v w o
       go i t (yes z) u v w o =
           let e : i ≡ n = omega arith in
           rw e (r .held t v w (rw e at o))
 
   -- one less: the table's rows and the words after it move down
   pub ahead-less : (i : ℕ) (rows new : List ℕ) → i < n → MovedDown table rowWords (rowWords * i) (rowWords * (n - 1)) rows
-      → MovedDown ahead aheadRounds (aheadRounds * i) (aheadRounds * (n - 1)) new → Ahead f rows (n - 1) from to new
+      → MovedDown ahead width (width * i) (width * (n - 1)) new → Ahead f rows (n - 1) width from to new
   ahead-less i rows new h m d =
-      record { size = omega (arith, d .same, a .size); few = a .few; held = λ j t u v w o. go j t (decLe i j) u v w o }
+      record { size = omega (arith, d .same, a .size, row-within width (n - 1) n (omega arith)); few = a .few; held = λ j t u v w o. go j t (decLe i j) u v w o }
     where
       go : (j t : ℕ) → Dec (i ≤ j) → j < n - 1 → from ≤ t → t < to → openIn t (streamAt rows j) ≡ true
-          → getD new (aheadRounds * j + (t - from)) 0 ≡ holdsIn f t (streamAt rows j)
+          → getD new (width * j + (t - from)) 0 ≡ holdsIn f t (streamAt rows j)
       go j t (no z) u v w o =
           let s = same-stream rows j table j (row-before table rows n i h m j (omega arith)) in
-          rw s (d .before (aheadRounds * j + (t - from)) (omega (arith, a .few)) ∙ a .held j t (omega arith) v w (rw s at o))
+          rw s (d .before (width * j + (t - from)) (omega (arith, a .few, row-within width j i (omega arith))) ∙ a .held j t (omega arith) v w (rw s at o))
       go j t (yes z) u v w o =
           let s = same-stream rows j table (j + 1) (row-down table rows n i h m j z u) in
-          let e : aheadRounds * j + (t - from) + aheadRounds ≡ aheadRounds * (j + 1) + (t - from) = omega arith in
+          let e : width * j + (t - from) + width ≡ width * (j + 1) + (t - from) = omega (arith, row-next width j) in
           rw s
-          (d .down (aheadRounds * j + (t - from)) (omega arith) (omega (arith, a .few))
+          (d .down (width * j + (t - from)) (omega (arith, mul-le-mul-left width z)) (omega (arith, a .few, row-within width j (n - 1) u))
           ∙ ap (λ (k : ℕ). getD ahead k 0) e
           ∙ a .held (j + 1) t (omega arith) v w (rw s at o))

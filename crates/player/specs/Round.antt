@@ -7,18 +7,15 @@ use lib.ListN.{length, getD, take}
 use lib.Bits.{bitOr}
 use lib.Count.{ones}
 use Rattle.films.specs.declared.types.Catalogue.{Catalogue}
-use Rattle.model.specs.Calls.{cabsJoined}
-use Rattle.model.specs.Report.{linesOf}
 use Rattle.model.specs.declared.Booking.{Booking}
 use Rattle.model.specs.declared.Day.{Day}
 use Rattle.load.specs.Stream.{sendsOf, openIn, holdsIn}
 use Rattle.load.specs.declared.stream.Stream.{Stream}
-use Rattle.questions.specs.Given.{settingAt}
 use Rattle.playing.specs.CabLaws.{cabsIn}
 use Rattle.playing.specs.Ready.{Ready}
 use Rattle.table.specs.Table.{nameAt, streamAt, Rows, Tabled}
 use Rattle.player.specs.Ahead.{Ahead}
-use Rattle.table.specs.Words.{linesWords, Wrote}
+use Rattle.table.specs.Words.{Wrote}
 use Rattle.player.specs.declared.report.Told.{Told}
 
 -- ---- by the table
@@ -45,6 +42,19 @@ unfoldable pub roundOpen : ℕ → List ℕ → ℕ → ℕ
 roundOpen t table zero = 0
 roundOpen t table (suc n) = roundOpen t table n + cond (openIn t (streamAt table n)) 1 0
 
+-- what a report of round t asks: the rows, what they hold in it, and room for their lines
+pub record Tellable (f table : List ℕ) (n width : ℕ) (ahead : List ℕ) (from t : ℕ) (out : List ℕ) (at : ℕ) : Type 0 where
+  pub rows : Rows f n table
+  pub held : Ahead f table n width from (t + 1) ahead
+  pub order : from ≤ t
+  pub room : at + 4 * roundOpen t table n ≤ length out
+
+-- and what it gives: the words of their lines, how many are open, and the count of cab bits of those that show
+pub record Reports (f table : List ℕ) (n t : ℕ) (old : List ℕ) (at : ℕ) (new : List ℕ) (r : Told) : Type 0 where
+  pub lines : Wrote old at (roundWords f t table n) new (r .next)
+  pub films : r .films ≡ roundOpen t table n
+  pub cabs : r .cabs ≡ ones (roundCabs t table n)
+
 -- ---- by the day
 
 -- the first n rows are those of the bookings of a day that stands
@@ -53,24 +63,3 @@ pub record OfDay (f : List ℕ) (c : Catalogue) (day : Day) (rows : List Booking
   pub there : day .count ≤ length rows
   pub number : n ≡ day .count
   pub tabled : Tabled c (take (day .count) rows) table
-
--- r is how many of the first n rows are open in round t: the number of lines of the day's report
-pub record Opens (table : List ℕ) (n t r : ℕ) : Type 0 where
-  pub number : r ≡ roundOpen t table n
-  pub few : r ≤ n
-  pub lines : (f : List ℕ) (c : Catalogue) (day : Day) (rows : List Booking) → OfDay f c day rows n table
-      → r ≡ length (linesOf (settingAt f day) t (take (day .count) rows))
-
--- what a report of round t asks: the rows, what they hold in it, and room for their lines
-pub record Tellable (f table : List ℕ) (n : ℕ) (ahead : List ℕ) (from t : ℕ) (out : List ℕ) (at : ℕ) : Type 0 where
-  pub rows : Rows f n table
-  pub held : Ahead f table n from (t + 1) ahead
-  pub order : from ≤ t
-  pub room : at + 4 * roundOpen t table n ≤ length out
-
--- and what it gives: the words of the lines of the day's report, and the count of cab bits of the films showing
-pub record Reports (f table : List ℕ) (n t : ℕ) (old : List ℕ) (at : ℕ) (new : List ℕ) (r : Told) : Type 0 where
-  pub lines : (c : Catalogue) (day : Day) (rows : List Booking) → OfDay f c day rows n table
-      → Wrote old at (linesWords (linesOf (settingAt f day) t (take (day .count) rows))) new (r .next)
-  pub cabs : (c : Catalogue) (day : Day) (rows : List Booking) → OfDay f c day rows n table
-      → r .cabs ≡ ones (cabsJoined (settingAt f day) t 0 (take (day .count) rows))

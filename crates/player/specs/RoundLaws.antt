@@ -2,7 +2,7 @@
 use mathlib.Core.Path.{_≡_, refl, sym, ap, ap₂, _∙_}
 use mathlib.Core.Bool.{Bool, true, false, cond}
 use mathlib.Core.List.{List, [], _∷_, _++_, append-nil}
-use Prim.Native.Nat.{ℕ, zero, suc, _+_, _-_, _*_, _≤_, _<_, min}
+use Prim.Native.Nat.{ℕ, zero, suc, _+_, _-_, _*_, _/_, _≤_, _<_, min}
 use native.Mathlib.Numerals.{add-one}
 use native.Mathlib.Omega.{arith}
 use lib.Dec.{leb, ltb}
@@ -29,10 +29,10 @@ use Rattle.playing.specs.CabLaws.{cabsIn, cabs-tied}
 use Rattle.playing.specs.LineLaws.{line-tied, lines-open, lines-shut}
 use Rattle.playing.specs.Ready.{row-tied, row-exists, row-playable}
 use Rattle.table.specs.Table.{nameAt, streamAt, RowIs, Rows}
-use Rattle.player.specs.Ahead.{aheadRounds, Ahead}
+use Rattle.player.specs.Ahead.{Ahead}
 use Rattle.table.specs.Words.{lineWords, linesWords, Wrote}
 use Rattle.table.specs.WordLaws.{wrote-none, wrote-length, wrote-then, lines-append}
-use Rattle.player.specs.Round.{heldWords, roundWords, roundCabs, roundOpen, OfDay, Opens, Reports}
+use Rattle.player.specs.Round.{heldWords, roundWords, roundCabs, roundOpen, OfDay, Reports}
 
 -- ---- how many are open
 
@@ -83,6 +83,20 @@ module _ (f : List ℕ) (t : ℕ) (table : List ℕ) (i : ℕ) where
   pub words-shut : openIn t (streamAt table i) ≡ false → roundWords f t table (i + 1) ≡ roundWords f t table i
   words-shut o = rw (words-next, o) (append-nil (roundWords f t table i))
 
+-- four words each
+pub words-length : (f : List ℕ) (t : ℕ) (table : List ℕ) (n : ℕ) → length (roundWords f t table n) ≡ 4 * roundOpen t table n
+unfolding roundWords roundOpen
+words-length f t table zero = refl
+words-length f t table (suc n) = go (openIn t (streamAt table n)) (words-length f t table n)
+  where
+    line : List ℕ
+    line = heldWords f t (nameAt table n) (streamAt table n)
+
+    go : (o : Bool) → length (roundWords f t table n) ≡ 4 * roundOpen t table n
+        → length (roundWords f t table n ++ cond o line []) ≡ 4 * (roundOpen t table n + cond o 1 0)
+    go true e = omega (arith, length-append (roundWords f t table n) line)
+    go false e = omega (arith, length-append (roundWords f t table n) [])
+
 pub cabs-next : (t : ℕ) (table : List ℕ) (i : ℕ) → roundCabs t table (i + 1) ≡ bitOr (roundCabs t table i) (cabsIn t (streamAt table i))
 unfolding roundCabs
 cabs-next t table i = rw add-one
@@ -111,34 +125,33 @@ cabs-shut t table i o =
 pub record Telling (f table : List ℕ) (n t : ℕ) (old : List ℕ) (at : ℕ) (new : List ℕ) (next taken i : ℕ) : Type 0 where
   pub some : i ≤ n
   pub words : Wrote old at (roundWords f t table i) new next
-  pub number : length (roundWords f t table i) ≡ 4 * roundOpen t table i
   pub cabs : taken ≡ roundCabs t table i
 
 module _ (f table : List ℕ) (n t : ℕ) (old : List ℕ) (at : ℕ) (room : at + 4 * roundOpen t table n ≤ length old) where
   pub telling-none : Telling f table n t old at old at 0 0
   unfolding roundWords roundCabs roundOpen
-  telling-none = record { some = omega arith; words = wrote-none old at; number = refl; cabs = refl }
+  telling-none = record { some = omega arith; words = wrote-none old at; cabs = refl }
 
   module _ (new : List ℕ) (next taken i : ℕ) (w : Telling f table n t old at new next taken i) where
     fits : at + length (roundWords f t table i) ≤ length old
-    fits = omega (arith, w .number, open-up t table i n (w .some))
+    fits = omega (arith, words-length f t table i, open-up t table i n (w .some))
 
     pub telling-length : length new ≡ length old
     telling-length = wrote-length old at (roundWords f t table i) new next fits (w .words)
 
     module _ (h : i < n) where
       -- what the line of a row that is open asks
-      pub telling-asks : (ahead : List ℕ) (from : ℕ) (x : Stream) → Rows f n table → Ahead f table n from (t + 1) ahead → from ≤ t
+      pub telling-asks : (ahead : List ℕ) (width from : ℕ) (x : Stream) → Rows f n table → Ahead f table n width from (t + 1) ahead → from ≤ t
           → x ≡ streamAt table i → openIn t (streamAt table i) ≡ true
-          → Playable f x × (x .start ≤ t) × (t < endOf x) × (getD ahead (aheadRounds * i + (t - from)) 0 ≡ holdsIn f t x) × (next + 4 ≤ length new)
-      telling-asks ahead from x r a u e o =
+          → Playable f x × (x .start ≤ t) × (t < endOf x) × (getD ahead (width * i + (t - from)) 0 ≡ holdsIn f t x) × (next + 4 ≤ length new)
+      telling-asks ahead width from x r a u e o =
           let place = open-place t (streamAt table i) o in
           rw e (
             r .playable i h,
             place .0,
             place .1,
             a .held i t h u (omega arith) o,
-            omega (arith, telling-length, w .words .place, w .number, open-next t table i true o, open-up t table (i + 1) n (omega arith)),
+            omega (arith, telling-length, w .words .place, words-length f t table i, open-next t table i true o, open-up t table (i + 1) n (omega arith)),
           )
 
       -- a turn with a row that is open
@@ -151,7 +164,6 @@ module _ (f table : List ℕ) (n t : ℕ) (old : List ℕ) (at : ℕ) (room : at
           (record {
             some = omega arith;
             words = rw more (wrote-then old at (roundWords f t table i) new next fits (w .words) line last end (rw (en, ex) at v));
-            number = rw more (omega (arith, length-append (roundWords f t table i) line, w .number, open-next t table i true o));
             cabs = e₃ ∙ ap₂ bitOr (w .cabs) (ec ∙ ap (cabsIn t) ex) ∙ sym (cabs-next t table i);
           })
         where
@@ -169,7 +181,6 @@ module _ (f table : List ℕ) (n t : ℕ) (old : List ℕ) (at : ℕ) (room : at
           (record {
             some = omega arith;
             words = rw more (w .words);
-            number = rw more (omega (arith, w .number, open-next t table i false o));
             cabs = w .cabs ∙ sym (cabs-shut t table i o);
           })
         where
@@ -287,18 +298,12 @@ module _ (f : List ℕ) (c : Catalogue) (day : Day) (rows : List Booking) (n : �
 
 -- ---- at the end of the rows
 
-pub opens-all : (table : List ℕ) (n t r : ℕ) → r ≡ roundOpen t table n → Opens table n t r
-opens-all table n t r e =
+pub tells-all : (f table : List ℕ) (n t : ℕ) (old : List ℕ) (at : ℕ) (new : List ℕ) (next taken i films cabs : ℕ) → i ≡ n → films ≡ (next - at) / 4
+    → cabs ≡ ones taken → Telling f table n t old at new next taken i
+    → Reports f table n t old at new (record { next = next; films = films; cabs = cabs })
+tells-all f table n t old at new next taken i films cabs e k l w =
     record {
-      number = e;
-      few = omega (arith, open-few t table n);
-      lines = λ f c day rows w. e ∙ day-open f c day rows n table w t;
-    }
-
-pub tells-all : (f table : List ℕ) (n t : ℕ) (old : List ℕ) (at : ℕ) (new : List ℕ) (next taken i cabs : ℕ) → i ≡ n → cabs ≡ ones taken
-    → Telling f table n t old at new next taken i → Reports f table n t old at new (record { next = next; cabs = cabs })
-tells-all f table n t old at new next taken i cabs e k w =
-    record {
-      lines = λ c day rows d. rw (ap (roundWords f t table) e ∙ day-words f c day rows n table d t) at (w .words);
-      cabs = λ c day rows d. k ∙ ap ones (w .cabs ∙ ap (roundCabs t table) e ∙ day-cabs f c day rows n table d t);
+      lines = rw e at (w .words);
+      films = omega (arith, w .words .place, words-length f t table i, ap (roundOpen t table) e);
+      cabs = l ∙ ap ones (w .cabs ∙ ap (roundCabs t table) e);
     }

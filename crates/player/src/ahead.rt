@@ -1,4 +1,4 @@
-// What the bookings of the table hold in the rounds ahead, a row of AHEAD_ROUNDS words each.
+// What the bookings of a table hold in the rounds ahead, a row of words each: as many as the rounds ahead, at least.
 use load::stream::Stream;
 use retrieval::carry_from;
 use sheet::clear::clear;
@@ -12,13 +12,23 @@ ghost use Rattle.load.specs.Basic.{Playable};
 ghost use Rattle.load.specs.Stream.{carryFrom};
 ghost use Rattle.table.specs.Rows.{MovedDown};
 ghost use Rattle.table.specs.Table.{streamAt, Rows};
-ghost use Rattle.player.specs.Ahead.{aheadRounds, Ahead, Looks, HeldBy, RowAhead, apartFrom};
+ghost use Rattle.player.specs.Ahead.{mostAhead, Ahead, Looks, HeldBy, RowAhead, apartFrom};
 
-// rounds ahead for which is kept what a booking holds
-pub const AHEAD_ROUNDS: usize = 32;
+// rounds ahead, at most
+pub const MOST_AHEAD: usize = 256;
 
 // words of all bookings of a day
 pub const AHEAD_WORDS: usize = 8192;
+
+// The most rounds ahead for which `words` words take what n bookings hold, MOST_AHEAD at most.
+pub fn rounds_ahead(words: usize, n: usize) -> usize
+    ensures { λ r. ⌜ ((r ≤ mostAhead) × (r * n ≤ words) × (r < mostAhead → words < (r + 1) * n)) ⌝ }
+{
+    if words / MOST_AHEAD < n {
+        return words / n;
+    }
+    MOST_AHEAD
+}
 
 // The carry of the stream's rounds from `to` on: what they leave to be read before.
 fn carry_after(file: &[u8], x: Stream, to: usize) -> u64
@@ -52,54 +62,51 @@ pub fn apart_from(start: usize, end: usize, from: usize, to: usize) -> bool
     end <= from
 }
 
-// Works out what booking i holds in the rounds from `from` to `to` - 1, where it is open in one of them.
+// Works out what booking i holds in the rounds from `from` to `to` - 1, where it is open in one of them. Rows have `width` words.
 pub fn look_ahead_row(
     file: &[u8],
     table: &[u64],
     i: usize,
     ahead: &mut [u64],
+    width: usize,
     from: usize,
     to: usize,
 )
-    requires { ⌜ Looks (now file) (now table) i (now ahead) from to ⌝ }
-    ensures { λ _. ⌜ RowAhead (now (file .entry)) (streamAt (now (table .entry)) i) from to (aheadRounds * i) (now (ahead .entry)) (now (ahead .exit)) ⌝ }
+    requires { ⌜ Looks (now file) (now table) i width (now ahead) from to ⌝ }
+    ensures { λ _. ⌜ RowAhead (now (file .entry)) (streamAt (now (table .entry)) i) from to (width * i) (now (ahead .entry)) (now (ahead .exit)) ⌝ }
 {
     let x = stream_at(table, i);
     if !apart_from(x.start, x.start + x.prefetch + x.rounds, from, to) {
-        let place = AHEAD_ROUNDS * i;
+        let place = width * i;
         let until = place + (to - from);
         write_held(file, x, &mut ahead[place..until], from, to);
     }
 }
 
-// Works out what the first `count` bookings hold in the rounds from `from` to `to` - 1.
+// Works out what the first `count` bookings hold in the rounds from `from` to `to` - 1, in rows of `width` words.
 pub fn look_ahead(
     file: &[u8],
     table: &[u64],
     count: usize,
     ahead: &mut [u64],
+    width: usize,
     from: usize,
     to: usize,
 )
-    requires { ⌜ (Rows (now file) count (now table)) × (from ≤ to) × (to ≤ from + aheadRounds) × (aheadRounds * count ≤ length (now ahead)) ⌝ }
-    ensures { λ _. ⌜ Ahead (now (file .entry)) (now (table .entry)) count from to (now (ahead .exit)) ⌝ }
+    requires { ⌜ (Rows (now file) count (now table)) × (from ≤ to) × (to ≤ from + width) × (width * count ≤ length (now ahead)) ⌝ }
+    ensures { λ _. ⌜ Ahead (now (file .entry)) (now (table .entry)) count width from to (now (ahead .exit)) ⌝ }
 {
     let mut i = 0;
     while i < count {
-        look_ahead_row(file, table, i, ahead, from, to);
+        look_ahead_row(file, table, i, ahead, width, from, to);
         i += 1;
     }
 }
 
 // Takes the words of booking i of the first `count` out: those after them move down.
-pub fn forget_ahead(ahead: &mut [u64], count: usize, i: usize)
-    requires { ⌜ (i < count) × (aheadRounds * count ≤ length (now ahead)) ⌝ }
-    ensures { λ _. ⌜ MovedDown (now (ahead .entry)) aheadRounds (aheadRounds * i) (aheadRounds * (count - 1)) (now (ahead .exit)) ⌝ }
+pub fn forget_ahead(ahead: &mut [u64], width: usize, count: usize, i: usize)
+    requires { ⌜ (i < count) × (width * count ≤ length (now ahead)) ⌝ }
+    ensures { λ _. ⌜ MovedDown (now (ahead .entry)) width (width * i) (width * (count - 1)) (now (ahead .exit)) ⌝ }
 {
-    move_down(
-        ahead,
-        AHEAD_ROUNDS,
-        AHEAD_ROUNDS * i,
-        AHEAD_ROUNDS * (count - 1),
-    );
+    move_down(ahead, width, width * i, width * (count - 1));
 }

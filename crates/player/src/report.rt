@@ -1,6 +1,5 @@
 // The report of a round from the table and from what the bookings hold: the words of a line for each film open, and the cabs
 // served.
-use crate::ahead::AHEAD_ROUNDS;
 use load::stream::Stream;
 use playing::cabs::cabs_in;
 use playing::cabs::count_of;
@@ -15,12 +14,16 @@ ghost use lib.ListN.{length};
 ghost use Rattle.load.specs.Basic.{Playable};
 ghost use Rattle.load.specs.Stream.{endOf, holdsIn};
 ghost use Rattle.table.specs.Words.{Wrote};
-ghost use Rattle.player.specs.Round.{heldWords, Opens, Tellable, Reports};
+ghost use Rattle.player.specs.Round.{heldWords, roundOpen, Tellable, Reports};
 ghost use Rattle.table.specs.Table.{Ended};
 
-// The place after the words of a round, and the count of cab bits of the films showing.
+// words of a line
+const LINE_WORDS: usize = 4;
+
+// The place after the words of a round, the films open, and the count of cab bits of those showing.
 pub struct Told {
     pub next: usize,
+    pub films: usize,
     pub cabs: u64,
 }
 
@@ -48,18 +51,20 @@ fn write_row(
     write_four(out, at, name, smaller(x.reserve, held), send, held)
 }
 
-// Writes the lines of round t from `at` on, for each of the first `count` bookings that is open in it.
+// Writes the lines of round t from `at` on, for each of the first `count` bookings that is open in it. `ahead` has what they hold in
+// the rounds from `from` on, in rows of `width` words.
 pub fn report(
     file: &[u8],
     table: &[u64],
     count: usize,
     ahead: &[u64],
+    width: usize,
     from: usize,
     t: usize,
     out: &mut [u64],
     at: usize,
 ) -> Told
-    requires { ⌜ Tellable (now file) (now table) count (now ahead) from t (now out) at ⌝ }
+    requires { ⌜ Tellable (now file) (now table) count width (now ahead) from t (now out) at ⌝ }
     ensures { λ r. ⌜ Reports (now (file .entry)) (now (table .entry)) count t (now (out .entry)) at (now (out .exit)) r ⌝ }
 {
     let mut next = at;
@@ -69,14 +74,16 @@ pub fn report(
         if open_at(table, i, t) {
             let name = name_at(table, i);
             let x = stream_at(table, i);
-            let k = AHEAD_ROUNDS * i + (t - from);
+            let k = width * i + (t - from);
             next = write_row(file, name, x, t, ahead[k], out, next);
             taken = taken | cabs_in(x, t);
         }
         i += 1;
     }
+    let films = (next - at) / LINE_WORDS;
     Told {
         next,
+        films,
         cabs: count_of(taken),
     }
 }
@@ -84,7 +91,7 @@ pub fn report(
 // The films open in round t.
 pub fn films_open(table: &[u64], count: usize, t: usize) -> usize
     requires { ⌜ Ended count (now table) ⌝ }
-    ensures { λ r. ⌜ Opens (now (table .entry)) count t r ⌝ }
+    ensures { λ r. ⌜ (r ≡ roundOpen t (now (table .entry)) count) × (r ≤ count) ⌝ }
 {
     let mut films = 0;
     let mut i = 0;

@@ -11,6 +11,7 @@ use Rattle.laws.specs.Questions.{refusal}
 use Rattle.films.specs.Questions.{verdict}
 use Rattle.films.specs.Catalogue.{catalogueOf, catalogue-verdict}
 use Rattle.films.specs.declared.types.Catalogue.{Catalogue}
+use Rattle.model.specs.Calls.{cabsJoined}
 use Rattle.model.specs.Report.{linesOf}
 use Rattle.model.specs.Code.{stateOf}
 use Rattle.model.specs.declared.Booking.{Booking}
@@ -26,7 +27,10 @@ use Rattle.playing.specs.Ready.{Ready}
 use Rattle.playing.specs.Laws.{ownAsks, own-after, standing-ready, plays-accepted}
 use Rattle.table.specs.Table.{Tabled}
 use Rattle.table.specs.Words.{linesWords, Wrote}
-use Rattle.player.specs.Round.{OfDay, Opens, Reports}
+use Rattle.player.specs.Active.{Active}
+use Rattle.player.specs.ActiveLaws.{report-words, report-films, report-cabs}
+use Rattle.player.specs.Round.{OfDay, Reports}
+use Rattle.player.specs.RoundLaws.{words-length}
 use Rattle.player.specs.declared.report.Told.{Told}
 use Rattle.replay.specs.Log.{answerWords}
 use Rattle.replay.specs.Writing.{wrote-under, lines-length}
@@ -35,7 +39,7 @@ use Rattle.replay.specs.DeskRun.{asStep}
 use Rattle.replay.specs.LoopLaws.{Going, going-next}
 use Rattle.replay.specs.Pictured.{Pictured, pictured-between, pictured-there, between-plays}
 use Rattle.replay.specs.Journal.{entryAt}
-use Rattle.replay.specs.Rounds.{later, StandingOf, Prepared, Tried, SpanAsks, TabledFor, SpanGives, Spanning}
+use Rattle.replay.specs.Rounds.{later, StandingOf, Prepared, Tried, TriedOf, SpanAsks, TabledFor, SpanGives, Spanning}
 use Rattle.replay.specs.declared.journal.Entry.{Entry}
 use Rattle.replay.specs.declared.journal.Entry.the-variants.{Play}
 use Rattle.replay.specs.declared.step.PlayStep.{PlayStep}
@@ -51,6 +55,10 @@ tried-none f day table e old at r new none same =
       placed = λ is. absurd (true≢false (sym is ∙ none));
       kept = λ u. same;
     }
+
+pub tried-of-none : (f : List ℕ) (day : Day) (active : List ℕ) (n from to : ℕ) (e : Entry) (old : List ℕ) (at : ℕ) (r : PlayStep) (new : List ℕ)
+    → r .done ≡ false → new ≡ old → TriedOf f day active n from to e old at r new
+tried-of-none f day active n from to e old at r new none same table selected = tried-none f day table e old at r new none same
 
 -- the day one round later has the same bookings
 pub of-later : (f : List ℕ) (c : Catalogue) (day : Day) (rows : List Booking) (table : List ℕ) → day .now < day .rounds
@@ -78,9 +86,10 @@ unfolding ownAsks
 own-none now rounds films room h k = rw (lt-ltb now rounds h, le-leb films room k)
 
 -- a round whose lines were written after the place of its answer, and then the answer
-module _ (f : List ℕ) (day : Day) (table : List ℕ) (films : ℕ) (opens : Opens table (day .count) (day .now) films) (earlier : day .now < day .rounds)
-    (old : List ℕ) (at : ℕ) (mid : List ℕ) (told : Told) (new : List ℕ) (m : ℕ) (size : at + 3 + 4 * films ≤ length old)
-    (reports : Reports f table (day .count) (day .now) old (at + 3) mid told) (wrote : Wrote mid at (answerWords (Played films (told .cabs))) new m) where
+module _ (f : List ℕ) (day : Day) (earlier : day .now < day .rounds) (active : List ℕ) (n from to : ℕ) (u : from ≤ day .now) (v : day .now < to)
+    (old : List ℕ) (at : ℕ) (mid : List ℕ) (told : Told) (new : List ℕ) (m : ℕ) (size : at + 3 + 4 * told .films ≤ length old)
+    (reports : Reports f active n (day .now) old (at + 3) mid told) (wrote : Wrote mid at (answerWords (Played (told .films) (told .cabs))) new m)
+    (table : List ℕ) (selected : Active table (day .count) from to active n) where
   abbrev left : PlayStep
   left = record { done = true; next = told .next; day = later day }
 
@@ -88,35 +97,37 @@ module _ (f : List ℕ) (day : Day) (table : List ℕ) (films : ℕ) (opens : Op
     abbrev ls : List Line
     ls = linesOf (settingAt f day) (day .now) (take (day .count) rows)
 
-    number : films ≡ length ls
-    number = opens .lines f c day rows of
+    number : told .films ≡ length ls
+    number = reports .films ∙ report-films f c day rows (day .count) table of from to active n selected (day .now) u v
 
-    round-whole : Wrote old at (answerWords (Played films (told .cabs)) ++ linesWords ls) new (told .next)
+    lines : Wrote old (at + 3) (linesWords ls) mid (told .next)
+    lines = rw (report-words f c day rows (day .count) table of from to active n selected (day .now) u v) at (reports .lines)
+
+    cabs : told .cabs ≡ ones (cabsJoined (settingAt f day) (day .now) 0 (take (day .count) rows))
+    cabs = reports .cabs ∙ ap ones (report-cabs f c day rows (day .count) table of from to active n selected (day .now) u v)
+
+    round-whole : Wrote old at (answerWords (Played (told .films) (told .cabs)) ++ linesWords ls) new (told .next)
     round-whole =
-        wrote-under old at (answerWords (Played films (told .cabs))) (linesWords ls) mid (told .next) new m
-        (omega (arith, lines-length ls, number)) (reports .lines c day rows of) wrote
+        wrote-under old at (answerWords (Played (told .films) (told .cabs))) (linesWords ls) mid (told .next) new m
+        (omega (arith, lines-length ls, number)) lines wrote
 
-    pub round-placed : told .next ≤ length old
-    round-placed = omega (arith, reports .lines c day rows of .place, lines-length ls, number)
-
-  pub round-done : (room : ℕ) → films ≤ room → (c : Catalogue) (list : List Booking) → OfDay f c day list (day .count) table
-      → length new ≡ length old → Tried f day table (Play room) old at left new
-  round-done room fits c₀ list of₀ long =
+  pub round-done : (room : ℕ) → told .films ≤ room → length new ≡ length old → Tried f day table (Play room) old at left new
+  round-done room fits long =
       record {
         tries =
             λ c rows places of asks.
             let films-are = number c rows of in
-            let none = own-after f day rows places room films (sym asks) films-are ∙ own-none (day .now) (day .rounds) films room earlier fits in
+            let none = own-after f day rows places room (told .films) (sym asks) films-are ∙ own-none (day .now) (day .rounds) (told .films) room earlier fits in
             let lines = padded (ls c rows of) in
-            let plays = plays-accepted f day rows places room films (told .cabs) lines none films-are refl (reports .cabs c day rows of) in
-            let front : take films lines ≡ ls c rows of = ap (λ (k : ℕ). take k lines) films-are ∙ take-padded (ls c rows of) in
+            let plays = plays-accepted f day rows places room (told .films) (told .cabs) lines none films-are refl (cabs c rows of) in
+            let front : take (told .films) lines ≡ ls c rows of = ap (λ (k : ℕ). take k lines) films-are ∙ take-padded (ls c rows of) in
             tries-step (settingAt f day) day rows places (Play room) old at left new
             (λ o v h.
-            play-whole f day rows places room (playedAs films (told .cabs) day lines) plays o v h old at (omega arith) (asStep left rows) new
+            play-whole f day rows places room (playedAs (told .films) (told .cabs) day lines) plays o v h old at (omega arith) (asStep left rows) new
             (omega arith) refl refl refl (rw front (round-whole c rows of)));
         earlier = λ is. earlier;
         after = λ is. refl;
-        placed = λ is. omega (arith, round-placed c₀ list of₀, long);
+        placed = λ is. omega (arith, reports .lines .place, words-length f (day .now) active n, reports .films, long);
         kept = λ is. absurd (true≢false is);
       }
 
@@ -129,53 +140,70 @@ pub standing-between : (f : List ℕ) (day : Day) (rows : List Booking) (places 
 standing-between f day rows places table asks there tabled =
     record { ready = standing-ready f day rows places 0 (catalogueOf f) refl (sym asks); there = there; number = refl; tabled = tabled }
 
-module _ (f : List ℕ) (day : Day) (table ahead : List ℕ) (from to : ℕ) (journal : List ℕ) (first count : ℕ) (old : List ℕ) (at : ℕ) where
-  -- no entry is done
-  pub gives-none : SpanGives f day table journal first count old at (record { entry = first; next = at; day = day }) old
-  gives-none = record { more = omega arith; same = refl; goes = λ day₀ rows₀ places log₀ o₀ r₀ h₀ o r h rows tabled g. g }
+-- no entry is done
+pub gives-none : (f : List ℕ) (day : Day) (table journal : List ℕ) (first count : ℕ) (old : List ℕ) (at : ℕ)
+    → SpanGives f day table journal first count old at (record { entry = first; next = at; day = day }) old
+gives-none f day table journal first count old at =
+    record { more = omega arith; same = refl; goes = λ day₀ rows₀ places log₀ o₀ r₀ h₀ o r h rows tabled g. g }
 
-  pub spanning-first : Prepared f day table ahead from to → SpanAsks journal first count old at
-      → Spanning f day table ahead from to journal first count old at old day at first
-  spanning-first prepared asks = record { within = omega (arith, asks .some); prepared = prepared; long = refl; placed = asks .placed; gives = gives-none }
+module _ (f : List ℕ) (day : Day) (active : List ℕ) (n width : ℕ) (ahead : List ℕ) (from to : ℕ) (journal : List ℕ) (first count : ℕ) (old : List ℕ)
+    (at : ℕ) where
+  pub spanning-first : Prepared f day active n width ahead from to → SpanAsks journal first count old at
+      → Spanning f day active n width ahead from to journal first count old at old day at first
+  spanning-first prepared asks =
+      record {
+        within = omega (arith, asks .some);
+        prepared = prepared;
+        same = refl;
+        long = refl;
+        placed = asks .placed;
+        gives = λ table selected. gives-none f day table journal first count old at;
+      }
 
   -- one more is done
-  pub spanning-next : (new : List ℕ) (today : Day) (place i : ℕ) → Spanning f day table ahead from to journal first count old at new today place i
-      → i < count → (r : PlayStep) (new′ : List ℕ) → Tried f today table (entryAt journal i) new place r new′ → r .done ≡ true
+  pub spanning-next : (new : List ℕ) (today : Day) (place i : ℕ)
+      → Spanning f day active n width ahead from to journal first count old at new today place i
+      → i < count → (r : PlayStep) (new′ : List ℕ) → TriedOf f today active n from to (entryAt journal i) new place r new′ → r .done ≡ true
       → length new′ ≡ length new
-      → Spanning f day table ahead from to journal first count old at new′ (r .day) (r .next) (i + 1)
+      → Spanning f day active n width ahead from to journal first count old at new′ (r .day) (r .next) (i + 1)
   spanning-next new today place i g h r new′ tried done long =
-      let standing = g .prepared .standing in
-      let after = tried .after done in
+      let kept = g .prepared in
+      let standing = kept .standing in
+      let here = tried (kept .table) (kept .selected) in
+      let after = here .after done in
       let accepted = standing .of .ready .accepted in
+      let is : today .count ≡ day .count = g .same in
       record {
         within = omega arith;
         prepared =
             rw after
             (record {
+              table = kept .table;
               standing =
                   record {
                     catalogue = standing .catalogue;
                     list = standing .list;
-                    of = of-later f (standing .catalogue) today (standing .list) table (tried .earlier done) (standing .of);
+                    of = of-later f (standing .catalogue) today (standing .list) (kept .table) (here .earlier done) (standing .of);
                   };
-              held = g .prepared .held;
-              within = g .prepared .within;
+              selected = kept .selected;
+              held = kept .held;
+              within = kept .within;
             });
+        same = ap (λ (u : Day). u .count) after ∙ is;
         long = long ∙ g .long;
-        placed = tried .placed done;
-        gives =
+        placed = here .placed done;
+        gives = λ table selected.
             record {
-              more = omega (arith, g .gives .more);
-              same = ap (λ (u : Day). u .count) after ∙ g .gives .same;
+              more = omega (arith, g .gives table selected .more);
+              same = ap (λ (u : Day). u .count) after ∙ is;
               goes =
                   λ day₀ rows₀ places log₀ o₀ r₀ h₀ o v l rows tabled g₀.
-                  let here = g .gives .goes day₀ rows₀ places log₀ o₀ r₀ h₀ o v l rows tabled g₀ in
+                  let so-far = g .gives table selected .goes day₀ rows₀ places log₀ o₀ r₀ h₀ o v l rows tabled g₀ in
                   let d = stateOf today rows places o v l in
-                  let asks = between-plays f today rows places o v l accepted (pictured-between (settingAt f today) d (here .pictured)) in
-                  let is : today .count ≡ day .count = g .gives .same in
+                  let asks = between-plays f today rows places o v l accepted (pictured-between (settingAt f today) d (so-far .pictured)) in
                   let of = standing-between f today rows places table asks (omega (arith, is, tabled accepted .1)) (rw is (tabled accepted .0)) in
-                  let tries = tried .tries (catalogueOf f) rows places of asks in
-                  going-next f day₀ rows₀ places journal log₀ o₀ r₀ h₀ count new o v l today rows place i here h (asStep r rows) new′ o v l
+                  let tries = tried table (rw is selected) .tries (catalogueOf f) rows places of asks in
+                  going-next f day₀ rows₀ places journal log₀ o₀ r₀ h₀ count new o v l today rows place i so-far h (asStep r rows) new′ o v l
                   (tries .took done o v l) refl refl refl;
             };
       }

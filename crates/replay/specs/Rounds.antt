@@ -13,6 +13,7 @@ use Rattle.model.specs.declared.Day.{Day}
 use Rattle.questions.specs.Given.{settingAt}
 use Rattle.questions.specs.Numbers.{standingAsks}
 use Rattle.table.specs.Table.{Tabled}
+use Rattle.player.specs.Active.{Active}
 use Rattle.player.specs.Ahead.{Ahead}
 use Rattle.player.specs.Round.{OfDay}
 use Rattle.replay.specs.Journal.{entryWords}
@@ -39,10 +40,13 @@ pub record StandingOf (f : List ℕ) (day : Day) (table : List ℕ) : Type 0 whe
   pub list : List Booking
   pub of : OfDay f catalogue day list (day .count) table
 
--- and `ahead` has what they hold in the rounds from `from` to `to` - 1
-pub record Prepared (f : List ℕ) (day : Day) (table ahead : List ℕ) (from to : ℕ) : Type 0 where
+-- the n rows of `active` are those of the day's bookings that are open in one of the rounds from `from` to `to` - 1, and `ahead` has
+-- what they hold in them
+pub record Prepared (f : List ℕ) (day : Day) (active : List ℕ) (n width : ℕ) (ahead : List ℕ) (from to : ℕ) : Type 0 where
+  pub table : List ℕ
   pub standing : StandingOf f day table
-  pub held : Ahead f table (day .count) from to ahead
+  pub selected : Active table (day .count) from to active n
+  pub held : Ahead f active n width from to ahead
   pub within : to ≤ day .rounds
 
 -- an entry is done on a day whose bookings are those of the table, or not at all
@@ -54,6 +58,11 @@ pub record Tried (f : List ℕ) (day : Day) (table : List ℕ) (e : Entry) (old 
   pub after : r .done ≡ true → r .day ≡ later day
   pub placed : r .done ≡ true → r .next ≤ length new
   pub kept : r .done ≡ false → new ≡ old
+
+-- whichever table the n rows of `active` were selected from
+abbrev pub TriedOf : List ℕ → Day → List ℕ → ℕ → ℕ → ℕ → Entry → List ℕ → ℕ → PlayStep → List ℕ → Type 0
+TriedOf f day active n from to e old at r new =
+    (table : List ℕ) → Active table (day .count) from to active n → Tried f day table e old at r new
 
 -- the entries of a span: there is one, and the log has places from `at` on
 pub record SpanAsks (journal : List ℕ) (first count : ℕ) (log : List ℕ) (at : ℕ) : Type 0 where
@@ -75,10 +84,12 @@ pub record SpanGives (f : List ℕ) (day : Day) (table journal : List ℕ) (firs
       → Going f day₀ rows₀ places journal log₀ opens₀ reserves₀ helds₀ count new opens reserves helds (r .day) rows (r .next) (r .entry)
 
 -- within a span: its entries up to i are done, and what is kept serves for the next
-pub record Spanning (f : List ℕ) (day : Day) (table ahead : List ℕ) (from to : ℕ) (journal : List ℕ) (first count : ℕ) (old : List ℕ) (at : ℕ)
-    (new : List ℕ) (today : Day) (place i : ℕ) : Type 0 where
+pub record Spanning (f : List ℕ) (day : Day) (active : List ℕ) (n width : ℕ) (ahead : List ℕ) (from to : ℕ) (journal : List ℕ) (first count : ℕ)
+    (old : List ℕ) (at : ℕ) (new : List ℕ) (today : Day) (place i : ℕ) : Type 0 where
   pub within : i ≤ count
-  pub prepared : Prepared f today table ahead from to
+  pub prepared : Prepared f today active n width ahead from to
+  pub same : today .count ≡ day .count
   pub long : length new ≡ length old
   pub placed : place ≤ length new
-  pub gives : SpanGives f day table journal first count old at (record { entry = i; next = place; day = today }) new
+  pub gives : (table : List ℕ) → Active table (day .count) from to active n
+      → SpanGives f day table journal first count old at (record { entry = i; next = place; day = today }) new

@@ -76,6 +76,7 @@ fn run(
     let count = journal.len() / ENTRY_WORDS;
     let verdict = c.verdict;
     let mut table = [0u64; TABLE_WORDS];
+    let mut active = [0u64; TABLE_WORDS];
     let mut ahead = [0u64; AHEAD_WORDS];
     keep_table(file, c, day, rows, &mut table);
     let mut today = day;
@@ -88,6 +89,7 @@ fn run(
             verdict,
             today,
             &table,
+            &mut active,
             &mut ahead,
             journal,
             i,

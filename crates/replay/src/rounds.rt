@@ -1,4 +1,4 @@
-// PLAYs one after the other, from the table of the day's bookings and what they hold in the rounds ahead.
+// PLAYs one after the other, from a table of the bookings that are open in one of the rounds ahead and from what they hold in them.
 use crate::journal::Entry;
 use crate::journal::entry_at;
 use crate::log::ANSWER_WORDS;
@@ -7,18 +7,22 @@ use crate::log::write_answer;
 use crate::step::PlayStep;
 use model::Answer;
 use model::Day;
-use player::ahead::AHEAD_ROUNDS;
+use player::active::select_active;
+use player::ahead::MOST_AHEAD;
 use player::ahead::look_ahead;
+use player::ahead::rounds_ahead;
 use player::report::films_open;
 use player::report::report;
 ghost use mathlib.Core.Path.{_≡_};
-ghost use mathlib.Core.Bool.{false};
+ghost use mathlib.Core.Bool.{true, false};
+ghost use mathlib.Core.List.{List};
 ghost use Prim.Native.Nat.{ℕ, _+_, _*_, _≤_, _<_, min};
 ghost use lib.ListN.{length};
 ghost use Rattle.limits.specs.Bounds.{maxBookings};
-ghost use Rattle.player.specs.Ahead.{aheadRounds};
-ghost use Rattle.player.specs.Round.{Opens, Tellable};
-ghost use Rattle.replay.specs.Rounds.{later, isPlay, StandingOf, Prepared, Tried, SpanAsks, SpanGives};
+ghost use Rattle.table.specs.Table.{rowWords, Ended};
+ghost use Rattle.player.specs.Active.{Active};
+ghost use Rattle.player.specs.Round.{roundOpen, Tellable};
+ghost use Rattle.replay.specs.Rounds.{later, isPlay, StandingOf, Prepared, TriedOf, SpanAsks, SpanGives};
 ghost use Rattle.replay.specs.declared.journal.Entry.the-variants.{Play};
 
 // The entries of a span that are done: the one after them, the place in the log after their words, and the day.
@@ -60,31 +64,44 @@ fn next_round(day: Day) -> Day
     }
 }
 
-// PLAY of a round in which `films` films are open, where the report takes as many lines and the log their words.
+// Whether at most `lines` of the n bookings are open in round t.
+fn lines_fit(active: &[u64], n: usize, t: usize, lines: usize) -> bool
+    requires { ⌜ Ended n (now active) ⌝ }
+    ensures { λ r. ⌜ (r ≡ true → roundOpen t (now (active .entry)) n ≤ lines) ⌝ }
+{
+    if n <= lines {
+        return true;
+    }
+    films_open(active, n, t) <= lines
+}
+
+// PLAY of a round whose lines the log takes.
 fn write_round(
     file: &[u8],
     day: Day,
-    films: usize,
-    table: &[u64],
+    active: &[u64],
+    n: usize,
     ahead: &[u64],
+    width: usize,
     from: usize,
     log: &mut [u64],
     at: usize,
 ) -> PlayStep
-    requires { ⌜ (day .now < day .rounds) × StandingOf (now file) day (now table) × Opens (now table) (day .count) (day .now) films × Tellable (now file) (now table) (day .count) (now ahead) from (day .now) (now log) (at + 3) ⌝ }
-    ensures { λ r. ⌜ ((room : ℕ) → films ≤ room → Tried (now (file .entry)) day (now (table .entry)) (Play room) (now (log .entry)) at r (now (log .exit))) ⌝ }
+    requires { ⌜ (day .now < day .rounds) × Tellable (now file) (now active) n width (now ahead) from (day .now) (now log) (at + 3) ⌝ }
+    ensures { λ r. ⌜ ((to room : ℕ) → day .now < to → roundOpen (day .now) (now (active .entry)) n ≤ room → TriedOf (now (file .entry)) day (now (active .entry)) n from to (Play room) (now (log .entry)) at r (now (log .exit))) ⌝ }
 {
     let told = report(
         file,
-        table,
-        day.count as usize,
+        active,
+        n,
         ahead,
+        width,
         from,
         day.now as usize,
         log,
         at + ANSWER_WORDS,
     );
-    write_answer(log, at, Answer::Played(films as u64, told.cabs));
+    write_answer(log, at, Answer::Played(told.films as u64, told.cabs));
     let after = next_round(day);
     PlayStep {
         done: true,
@@ -99,15 +116,17 @@ fn play_ahead(
     file: &[u8],
     day: Day,
     room: u64,
-    table: &[u64],
+    active: &[u64],
+    n: usize,
     ahead: &[u64],
+    width: usize,
     from: usize,
     to: usize,
     log: &mut [u64],
     at: usize,
 ) -> PlayStep
-    requires { ⌜ (at + 3 ≤ length (now log)) × Prepared (now file) day (now table) (now ahead) from to ⌝ }
-    ensures { λ r. ⌜ Tried (now (file .entry)) day (now (table .entry)) (Play room) (now (log .entry)) at r (now (log .exit)) ⌝ }
+    requires { ⌜ (at + 3 ≤ length (now log)) × Prepared (now file) day (now active) n width (now ahead) from to ⌝ }
+    ensures { λ r. ⌜ TriedOf (now (file .entry)) day (now (active .entry)) n from to (Play room) (now (log .entry)) at r (now (log .exit)) ⌝ }
 {
     let t = day.now as usize;
     if t < from {
@@ -116,14 +135,12 @@ fn play_ahead(
     if to <= t {
         return not_played(day, at);
     }
-    let films = films_open(table, day.count as usize, t);
-    if room < films as u64 {
+    let lines = room as usize;
+    let places = (log.len() - at - ANSWER_WORDS) / LINE_WORDS;
+    if !lines_fit(active, n, t, smaller(lines, places)) {
         return not_played(day, at);
     }
-    if (log.len() - at - ANSWER_WORDS) / LINE_WORDS < films {
-        return not_played(day, at);
-    }
-    write_round(file, day, films, table, ahead, from, log, at)
+    write_round(file, day, active, n, ahead, width, from, log, at)
 }
 
 // Carries an entry out and logs it from place `at` on, where it is a PLAY that `play_ahead` does; else nothing is done.
@@ -131,22 +148,36 @@ fn try_play(
     file: &[u8],
     day: Day,
     entry: Entry,
-    table: &[u64],
+    active: &[u64],
+    n: usize,
     ahead: &[u64],
+    width: usize,
     from: usize,
     to: usize,
     log: &mut [u64],
     at: usize,
 ) -> PlayStep
-    requires { ⌜ (at ≤ length (now log)) × Prepared (now file) day (now table) (now ahead) from to ⌝ }
-    ensures { λ r. ⌜ Tried (now (file .entry)) day (now (table .entry)) entry (now (log .entry)) at r (now (log .exit)) ⌝ }
+    requires { ⌜ (at ≤ length (now log)) × Prepared (now file) day (now active) n width (now ahead) from to ⌝ }
+    ensures { λ r. ⌜ TriedOf (now (file .entry)) day (now (active .entry)) n from to entry (now (log .entry)) at r (now (log .exit)) ⌝ }
 {
     let left = log.len() - at;
     if left < ANSWER_WORDS {
         return not_played(day, at);
     }
     match entry {
-        Entry::Play(room) => play_ahead(file, day, room, table, ahead, from, to, log, at),
+        Entry::Play(room) => play_ahead(
+            file,
+            day,
+            room,
+            active,
+            n,
+            ahead,
+            width,
+            from,
+            to,
+            log,
+            at,
+        ),
         Entry::Book(_) => not_played(day, at),
         Entry::Drop(_) => not_played(day, at),
         Entry::Unknown => not_played(day, at),
@@ -169,8 +200,10 @@ fn is_play(entry: Entry) -> bool
 fn play_on(
     file: &[u8],
     day: Day,
-    table: &[u64],
+    active: &[u64],
+    n: usize,
     ahead: &[u64],
+    width: usize,
     from: usize,
     to: usize,
     journal: &[u64],
@@ -179,8 +212,8 @@ fn play_on(
     log: &mut [u64],
     at: usize,
 ) -> Span
-    requires { ⌜ Prepared (now file) day (now table) (now ahead) from to × SpanAsks (now journal) first count (now log) at ⌝ }
-    ensures { λ r. ⌜ SpanGives (now (file .entry)) day (now (table .entry)) (now (journal .entry)) first count (now (log .entry)) at r (now (log .exit)) ⌝ }
+    requires { ⌜ Prepared (now file) day (now active) n width (now ahead) from to × SpanAsks (now journal) first count (now log) at ⌝ }
+    ensures { λ r. ⌜ ((table : List ℕ) → Active table (day .count) from to (now (active .entry)) n → SpanGives (now (file .entry)) day table (now (journal .entry)) first count (now (log .entry)) at r (now (log .exit))) ⌝ }
 {
     let mut today = day;
     let mut place = at;
@@ -190,8 +223,10 @@ fn play_on(
             file,
             today,
             entry_at(journal, i),
-            table,
+            active,
+            n,
             ahead,
+            width,
             from,
             to,
             log,
@@ -217,12 +252,13 @@ fn play_on(
 }
 
 // Carries the entries from `first` on out that are PLAYs and have room, for at most as many rounds as is looked ahead; none where the
-// film file is refused, which `verdict` says. The table is that of the day's bookings.
+// film file is refused, which `verdict` says. The table is that of the day's bookings, and `active` and `ahead` are written anew.
 pub fn play_span(
     file: &[u8],
     verdict: u32,
     day: Day,
     table: &[u64],
+    active: &mut [u64],
     ahead: &mut [u64],
     journal: &[u64],
     first: usize,
@@ -230,7 +266,7 @@ pub fn play_span(
     log: &mut [u64],
     at: usize,
 ) -> Span
-    requires { ⌜ (verdict ≡ 0 → StandingOf (now file) day (now table)) × (aheadRounds * maxBookings ≤ length (now ahead)) × SpanAsks (now journal) first count (now log) at ⌝ }
+    requires { ⌜ (verdict ≡ 0 → StandingOf (now file) day (now table)) × (rowWords * maxBookings ≤ length (now active)) × SpanAsks (now journal) first count (now log) at ⌝ }
     ensures { λ r. ⌜ SpanGives (now (file .entry)) day (now (table .entry)) (now (journal .entry)) first count (now (log .entry)) at r (now (log .exit)) ⌝ }
 {
     let none = Span {
@@ -245,13 +281,18 @@ pub fn play_span(
         return none;
     }
     let from = day.now as usize;
-    let to = smaller(from + AHEAD_ROUNDS, day.rounds as usize);
-    look_ahead(file, table, day.count as usize, ahead, from, to);
+    let n = select_active(table, day.count as usize, from, from + MOST_AHEAD, active);
+    let width = rounds_ahead(ahead.len(), n);
+    let left = smaller(width, count - first);
+    let to = smaller(from + left, day.rounds as usize);
+    look_ahead(file, active, n, ahead, width, from, to);
     play_on(
         file,
         day,
-        table,
+        active,
+        n,
         ahead,
+        width,
         from,
         to,
         journal,

@@ -14,14 +14,15 @@ use Rattle.replay.proofs.run.Statement.{statement}
 use Rattle.replay.proofs.run.Tie as tie
 
 abbrev Inv-loop : tie.InvT-loop
-Inv-loop file c places journal log₀ opens₀ reserves₀ helds₀ count verdict table₀ ahead₀ today₀ list₀ at₀ i₀ log opens reserves helds table ahead today list at i =
+Inv-loop file c places journal log₀ opens₀ reserves₀ helds₀ count verdict table₀ active₀ ahead₀ today₀ list₀ at₀ i₀ log opens reserves helds table active ahead today list at i =
     Going file today₀ list₀ places journal log₀ opens₀ reserves₀ helds₀ count log opens reserves helds today list at i
     × TabledFor file today list table
     × (length table ≡ 2048)
+    × (length active ≡ 2048)
     × (length ahead ≡ 8192)
 
 abbrev μ-loop : tie.MeasureT-loop
-μ-loop file c places journal log₀ opens₀ reserves₀ helds₀ count verdict table₀ ahead₀ today₀ list₀ at₀ i₀ log opens reserves helds table ahead today list at i =
+μ-loop file c places journal log₀ opens₀ reserves₀ helds₀ count verdict table₀ active₀ ahead₀ today₀ list₀ at₀ i₀ log opens reserves helds table active ahead today list at i =
     count - i
 
 slice-aggregate-keep-table : tie.Need-slice-aggregate-keep-table Inv-loop μ-loop
@@ -42,6 +43,7 @@ loop-holds c =
       between-tabled (a .file .now) (a .c) (start .pre .0) (a .day) (a .rows) (a .places) (a .opens .now) (a .reserves .now) (a .helds .now) (start .pre .1) _ (kept .ensures .0),
       kept .kept .1 .1 .1 .1 .0,
       refl,
+      refl,
     )
 
 slice-aggregate-play-span : tie.Need-slice-aggregate-play-span Inv-loop μ-loop
@@ -50,9 +52,12 @@ slice-aggregate-play-span c = sym (c .before .before .loop .inv .2)
 slice-aggregate-play-span-2 : tie.Need-slice-aggregate-play-span-2 Inv-loop μ-loop
 slice-aggregate-play-span-2 c = sym (c .before .before .before .loop .inv .3)
 
+slice-aggregate-play-span-3 : tie.Need-slice-aggregate-play-span-3 Inv-loop μ-loop
+slice-aggregate-play-span-3 c = sym (c .before .before .before .before .loop .inv .4)
+
 play-span-requires : tie.Need-play-span-requires Inv-loop μ-loop
 play-span-requires c κs =
-    let turn = c .before .before .before in
+    let turn = c .before .before .before .before in
     let l = turn .before .loop in
     let start = turn .before .before .before .before .before .before .before .before .before .before .before in
     let a = start .args in (
@@ -62,12 +67,12 @@ play-span-requires c κs =
     )
 
 loop-less : tie.Need-loop-less Inv-loop μ-loop
-loop-less c = let turn = c .before .before .before .before .before .before .before .before .before .before in omega (arith, c .if1 .taken, turn .loop-test .taken)
+loop-less c = let turn = c .before .before .before .before .before .before .before .before .before .before .before .before in omega (arith, c .if1 .taken, turn .loop-test .taken)
 
 loop-again : tie.Need-loop-again Inv-loop μ-loop
 loop-again c =
-    let span = c .before .before .before .before .before .before in
-    let turn = span .before .before .before .before in
+    let span = c .before .before .before .before .before .before .before in
+    let turn = span .before .before .before .before .before in
     let l = turn .before .loop in
     let a = turn .before .before .before .before .before .before .before .before .before .before .before .args in
     let is = span .play-span .ensures .same in (
@@ -76,15 +81,16 @@ loop-again c =
       λ e. (rw is (l .inv .1 e .0), omega (arith, is, l .inv .1 e .1)),
       l .inv .2,
       span .play-span .kept .1 .1 .1 .1 .0 ∙ l .inv .3,
+      span .play-span .kept .1 .1 .1 .1 .1 .0 ∙ l .inv .4,
     )
 
 entry-at-requires : tie.Need-entry-at-requires Inv-loop μ-loop
-entry-at-requires c κs = let turn = c .before .before .before .before .before .before .before .before .before .before in omega (arith, turn .loop-test .taken)
+entry-at-requires c κs = let turn = c .before .before .before .before .before .before .before .before .before .before .before .before in omega (arith, turn .loop-test .taken)
 
 step-requires : tie.Need-step-requires Inv-loop μ-loop
 step-requires c κs =
-    let span = c .before .before .before .before .before .before .before .before .before .before .before in
-    let turn = span .before .before .before .before in
+    let span = c .before .before .before .before .before .before .before .before .before .before .before .before in
+    let turn = span .before .before .before .before .before in
     let l = turn .before .loop in
     let start = turn .before .before .before .before .before .before .before .before .before .before .before in
     let a = start .args in
@@ -95,29 +101,29 @@ step-requires c κs =
 same-length : tie.Need-same-length Inv-loop μ-loop
 same-length c =
     let called = c .before .before .before .before .before .before .before .before .before .before in
-    called .step .kept .1 .1 .1 .1 .1 .1 .0 ∙ called .before .before .before .before .before .before .before .before .before .before .before .before .play-span .kept .1 .1 .1 .1 .1 .1 .1 .1 .0 ∙ called .before .before .before .before .before .before .before .before .before .before .before .before .before .before .before .before .before .loop .inv .0 .long
+    called .step .kept .1 .1 .1 .1 .1 .1 .0 ∙ called .before .before .before .before .before .before .before .before .before .before .before .before .before .play-span .kept .1 .1 .1 .1 .1 .1 .1 .1 .1 .0 ∙ called .before .before .before .before .before .before .before .before .before .before .before .before .before .before .before .before .before .before .before .loop .inv .0 .long
 
 same-length-2 : tie.Need-same-length-2 Inv-loop μ-loop
-same-length-2 c = let called = c .before .before .before .before .before .before .before .before .before .before in called .step .kept .1 .1 .1 .1 .1 .1 .1 .1 .0 ∙ called .before .before .before .before .before .before .before .before .before .before .before .before .before .before .before .before .before .loop .inv .0 .opensLong
+same-length-2 c = let called = c .before .before .before .before .before .before .before .before .before .before in called .step .kept .1 .1 .1 .1 .1 .1 .1 .1 .0 ∙ called .before .before .before .before .before .before .before .before .before .before .before .before .before .before .before .before .before .before .before .loop .inv .0 .opensLong
 
 same-length-3 : tie.Need-same-length-3 Inv-loop μ-loop
-same-length-3 c = let called = c .before .before .before .before .before .before .before .before .before .before in called .step .kept .1 .1 .1 .1 .1 .1 .1 .1 .1 .0 ∙ called .before .before .before .before .before .before .before .before .before .before .before .before .before .before .before .before .before .loop .inv .0 .reservesLong
+same-length-3 c = let called = c .before .before .before .before .before .before .before .before .before .before in called .step .kept .1 .1 .1 .1 .1 .1 .1 .1 .1 .0 ∙ called .before .before .before .before .before .before .before .before .before .before .before .before .before .before .before .before .before .before .before .loop .inv .0 .reservesLong
 
 same-length-4 : tie.Need-same-length-4 Inv-loop μ-loop
-same-length-4 c = let called = c .before .before .before .before .before .before .before .before .before .before in called .step .kept .1 .1 .1 .1 .1 .1 .1 .1 .1 .1 .0 ∙ called .before .before .before .before .before .before .before .before .before .before .before .before .before .before .before .before .before .loop .inv .0 .heldsLong
+same-length-4 c = let called = c .before .before .before .before .before .before .before .before .before .before in called .step .kept .1 .1 .1 .1 .1 .1 .1 .1 .1 .1 .0 ∙ called .before .before .before .before .before .before .before .before .before .before .before .before .before .before .before .before .before .before .before .loop .inv .0 .heldsLong
 
 returns : tie.Need-returns Inv-loop μ-loop
 returns c =
     let called = c .before .before .before .before .before .before .before .before .before .before in
-    let span = called .before .before .before .before .before .before .before .before .before .before .before .before in
-    let turn = called .before .before .before .before .before .before .before .before .before .before .before .before .before .before .before .before in
+    let span = called .before .before .before .before .before .before .before .before .before .before .before .before .before in
+    let turn = called .before .before .before .before .before .before .before .before .before .before .before .before .before .before .before .before .before .before in
     let l = turn .before .loop in
     let start = turn .before .before .before .before .before .before .before .before .before .before .before in
     let a = start .args in
     let is : span .play-span .result .entry ≡ l .i = omega (arith, called .before .before .before .before .before .before .if1 .left, span .play-span .ensures .more) in
     let here = rw is at (span .play-span .ensures .goes (a .day) (a .rows) (a .places) (a .log .now) (a .opens .now) (a .reserves .now) (a .helds .now)
     (l .opens) (l .reserves) (l .helds) (l .list) (l .inv .1) (l .inv .0)) in
-    let log = span .play-span .last .1 .1 .1 .1 .1 .1 .1 .1 .0 in
+    let log = span .play-span .last .1 .1 .1 .1 .1 .1 .1 .1 .1 .0 in
     let last = called .step .last .1 .1 .1 .1 .1 .1 in
     let stepped = rw (called .before .before .before .before .before .entry-at .ensures) at (called .step .ensures) in
     going-full (a .file .now) (a .day) (a .rows) (a .places) (a .journal .now) (a .log .now) (a .opens .now) (a .reserves .now) (a .helds .now) _
@@ -125,20 +131,20 @@ returns c =
     (turn .loop-test .taken) (called .step .result) (last .0) (last .1 .1 .0) (last .1 .1 .1 .0) (last .1 .1 .1 .1 .0) (stepped .kept (not-true _ (c .if2 .taken)))
 
 slice-aggregate-keep-table-2 : tie.Need-slice-aggregate-keep-table-2 Inv-loop μ-loop
-slice-aggregate-keep-table-2 c = sym (c .before .before .before .before .before .before .before .before .before .before .before .before .before .before .before .before .before .before .before .before .before .before .before .before .before .before .before .before .before .before .loop .inv .2)
+slice-aggregate-keep-table-2 c = sym (c .before .before .before .before .before .before .before .before .before .before .before .before .before .before .before .before .before .before .before .before .before .before .before .before .before .before .before .before .before .before .before .before .loop .inv .2)
 
 keep-table-requires-2 : tie.Need-keep-table-requires-2 Inv-loop μ-loop
 keep-table-requires-2 c κs =
     let called = c .before .before .before .before .before .before .before .before .before .before .before .before .before in
-    let span = called .before .before .before .before .before .before .before .before .before .before .before .before in
-    let turn = called .before .before .before .before .before .before .before .before .before .before .before .before .before .before .before .before in
+    let span = called .before .before .before .before .before .before .before .before .before .before .before .before .before in
+    let turn = called .before .before .before .before .before .before .before .before .before .before .before .before .before .before .before .before .before .before in
     let l = turn .before .loop in
     let start = turn .before .before .before .before .before .before .before .before .before .before .before in
     let a = start .args in
     let is : span .play-span .result .entry ≡ l .i = omega (arith, called .before .before .before .before .before .before .if1 .left, span .play-span .ensures .more) in
     let here = rw is at (span .play-span .ensures .goes (a .day) (a .rows) (a .places) (a .log .now) (a .opens .now) (a .reserves .now) (a .helds .now)
     (l .opens) (l .reserves) (l .helds) (l .list) (l .inv .1) (l .inv .0)) in
-    let log = span .play-span .last .1 .1 .1 .1 .1 .1 .1 .1 .0 in
+    let log = span .play-span .last .1 .1 .1 .1 .1 .1 .1 .1 .1 .0 in
     let last = called .step .last .1 .1 .1 .1 .1 .1 in
     let stepped = rw (called .before .before .before .before .before .entry-at .ensures) at (called .step .ensures) in
     let kept = called .step .kept .1 .1 .1 .1 .1 .1 .1 .1 in
@@ -151,23 +157,23 @@ keep-table-requires-2 c κs =
     (between-ready (a .file .now) (a .c) (start .pre .0) (after .day) (after .rows) (a .places) (last .1 .1 .0) (last .1 .1 .1 .0) (last .1 .1 .1 .1 .0) (next .pictured), omega (arith, l .inv .2))
 
 add-i : tie.Need-add-i Inv-loop μ-loop
-add-i c = let turn = c .before .before .before .before .before .before .before .before .before .before .before .before .before .before .before .before .before .before .before .before .before .before .before .before .before .before .before .before .before .before .before in record { fits = omega (arith, turn .loop-test .taken, turn .before .before .before .before .before .before .before .before .before .before .before .good) }
+add-i c = let turn = c .before .before .before .before .before .before .before .before .before .before .before .before .before .before .before .before .before .before .before .before .before .before .before .before .before .before .before .before .before .before .before .before .before in record { fits = omega (arith, turn .loop-test .taken, turn .before .before .before .before .before .before .before .before .before .before .before .good) }
 
 loop-less-2 : tie.Need-loop-less-2 Inv-loop μ-loop
-loop-less-2 c = let turn = c .before .before .before .before .before .before .before .before .before .before .before .before .before .before .before .before .before .before .before .before .before .before .before .before .before .before .before .before .before .before .before in omega (arith, turn .loop-test .taken)
+loop-less-2 c = let turn = c .before .before .before .before .before .before .before .before .before .before .before .before .before .before .before .before .before .before .before .before .before .before .before .before .before .before .before .before .before .before .before .before .before in omega (arith, turn .loop-test .taken)
 
 loop-again-2 : tie.Need-loop-again-2 Inv-loop μ-loop
 loop-again-2 c =
     let called = c .before .before .before .before .before .before .before .before .before .before .before .before .before .before .before in
-    let span = called .before .before .before .before .before .before .before .before .before .before .before .before in
-    let turn = called .before .before .before .before .before .before .before .before .before .before .before .before .before .before .before .before in
+    let span = called .before .before .before .before .before .before .before .before .before .before .before .before .before in
+    let turn = called .before .before .before .before .before .before .before .before .before .before .before .before .before .before .before .before .before .before in
     let l = turn .before .loop in
     let start = turn .before .before .before .before .before .before .before .before .before .before .before in
     let a = start .args in
     let is : span .play-span .result .entry ≡ l .i = omega (arith, called .before .before .before .before .before .before .if1 .left, span .play-span .ensures .more) in
     let here = rw is at (span .play-span .ensures .goes (a .day) (a .rows) (a .places) (a .log .now) (a .opens .now) (a .reserves .now) (a .helds .now)
     (l .opens) (l .reserves) (l .helds) (l .list) (l .inv .1) (l .inv .0)) in
-    let log = span .play-span .last .1 .1 .1 .1 .1 .1 .1 .1 .0 in
+    let log = span .play-span .last .1 .1 .1 .1 .1 .1 .1 .1 .1 .0 in
     let last = called .step .last .1 .1 .1 .1 .1 .1 in
     let stepped = rw (called .before .before .before .before .before .entry-at .ensures) at (called .step .ensures) in
     let kept = called .step .kept .1 .1 .1 .1 .1 .1 .1 .1 in
@@ -181,6 +187,7 @@ loop-again-2 c =
       between-tabled (a .file .now) (a .c) (start .pre .0) (after .day) (after .rows) (a .places) (last .1 .1 .0) (last .1 .1 .1 .0) (last .1 .1 .1 .1 .0) (next .pictured) _ (c .before .keep-table2 .ensures .0),
       c .before .keep-table2 .kept .1 .1 .1 .1 .0 ∙ l .inv .2,
       span .play-span .kept .1 .1 .1 .1 .0 ∙ l .inv .3,
+      span .play-span .kept .1 .1 .1 .1 .1 .0 ∙ l .inv .4,
     )
 
 same-length-5 : tie.Need-same-length-5 Inv-loop μ-loop
@@ -213,6 +220,7 @@ run-spec =
     loop-holds
     slice-aggregate-play-span
     slice-aggregate-play-span-2
+    slice-aggregate-play-span-3
     play-span-requires
     loop-less
     loop-again

@@ -6,22 +6,22 @@ use native.Mathlib.Omega.{arith}
 use borrow.Author.Needs.{needs}
 use lib.ListN.{length}
 use Rattle.player.specs.Ahead.{Ahead}
-use Rattle.player.specs.AheadLaws.{ahead-start, ahead-more}
+use Rattle.player.specs.AheadLaws.{row-within, ahead-start, ahead-more}
 use Rattle.player.proofs.ahead.look_ahead.Statement.{statement}
 use Rattle.player.proofs.ahead.look_ahead.Tie as tie
 use Rattle.player.proofs.ahead.look_ahead_row.Reads as look-ahead-row-reads
 
 abbrev Inv-loop : tie.InvT-loop
-Inv-loop file table count ahead₀ from to i₀ ahead i = (i ≤ count) × (length ahead ≡ length ahead₀) × Ahead file table i from to ahead
+Inv-loop file table count ahead₀ width from to i₀ ahead i = (i ≤ count) × (length ahead ≡ length ahead₀) × Ahead file table i width from to ahead
 
 abbrev μ-loop : tie.MeasureT-loop
-μ-loop file table count ahead₀ from to i₀ ahead i = count - i
+μ-loop file table count ahead₀ width from to i₀ ahead i = count - i
 
 loop-holds : tie.Need-loop-holds Inv-loop μ-loop
 loop-holds c =
     let start = c .before .before .before in
     let a = start .args in
-    (omega arith, refl, ahead-start (a .file .now) (a .table .now) (a .from) (a .to) (a .ahead .now) (start .pre .2))
+    (omega arith, refl, ahead-start (a .file .now) (a .table .now) (a .width) (a .from) (a .to) (a .ahead .now) (start .pre .2))
 
 look-ahead-row-requires : tie.Need-look-ahead-row-requires Inv-loop μ-loop
 look-ahead-row-requires c κs =
@@ -33,7 +33,7 @@ look-ahead-row-requires c κs =
       playable = start .pre .0 .playable (l .i) here;
       order = start .pre .1;
       few = start .pre .2;
-      size = omega (arith, start .pre .3, l .inv .1);
+      size = omega (arith, start .pre .3, l .inv .1, row-within (start .args .width) (l .i) (start .args .count) here);
     }
 
 add-i : tie.Need-add-i Inv-loop μ-loop
@@ -52,8 +52,8 @@ loop-again c =
     let here = turn .loop-test .taken in (
       omega arith,
       called .ensures .same ∙ l .inv .1,
-      ahead-more (a .file .now) (a .table .now) (l .i) (a .from) (a .to) (l .ahead) (l .inv .2) (called .last .1 .1 .1 .0)
-          (omega (arith, start .pre .3, l .inv .1)) (called .ensures),
+      ahead-more (a .file .now) (a .table .now) (l .i) (a .width) (a .from) (a .to) (l .ahead) (l .inv .2) (called .last .1 .1 .1 .0)
+          (omega (arith, start .pre .3, l .inv .1, row-within (start .args .width) (l .i) (start .args .count) here)) (called .ensures),
     )
 
 same-length : tie.Need-same-length Inv-loop μ-loop

@@ -7,7 +7,7 @@ use borrow.Author.Tests.{not-true, not-false}
 use borrow.Rule.Slice.PartMut.{putMid, mid-len}
 use Rattle.load.specs.Basic.{Playable}
 use Rattle.load.specs.declared.stream.Stream.{Stream}
-use Rattle.player.specs.Ahead.{aheadRounds, RowAhead}
+use Rattle.player.specs.Ahead.{RowAhead}
 use Rattle.player.specs.AheadLaws.{row-apart, row-started, row-put}
 use borrow.Author.Needs.{needs}
 use Rattle.player.proofs.ahead.look_ahead_row.Statement.{statement}
@@ -62,7 +62,7 @@ write-held-requires c κs =
     let made = tested .before .before .before .stream-at in
     let start = tested .before .before .before .before .before .before .before in
     let a = start .args in
-    let place = aheadRounds * a .i in
+    let place = a .width * a .i in
     let until = place + (a .to - a .from) in
     let p = subst (λ (x : Stream). Playable (a .file .now) x) (sym (made .ensures)) (start .pre .playable) in
     let inside : until ≤ length (a .ahead .now) = omega (arith, start .pre .size, start .pre .few) in (
@@ -83,7 +83,7 @@ returns c =
     let made = tested .before .before .before .stream-at in
     let start = tested .before .before .before .before .before .before .before in
     let a = start .args in
-    let place = aheadRounds * a .i in
+    let place = a .width * a .i in
     let until = place + (a .to - a .from) in
     let inside : until ≤ length (a .ahead .now) = omega (arith, start .pre .size, start .pre .few) in
     let part = wrote .write-held .last .1 .1 .0 in
@@ -98,7 +98,7 @@ returns-2 c =
     let made = tested .before .before .before .stream-at in
     let start = tested .before .before .before .before .before .before .before in
     let a = start .args in
-    let place = aheadRounds * a .i in
+    let place = a .width * a .i in
     subst (λ (x : Stream). RowAhead (a .file .now) x (a .from) (a .to) place (a .ahead .now) (a .ahead .now)) (made .ensures)
     (row-apart (a .file .now) (made .result) (a .from) (a .to) place (start .pre .order) (a .ahead .now)
     (sym (tested .apart-from .ensures) ∙ not-false (tested .apart-from .result) (c .if1 .left)))

@@ -9,7 +9,7 @@ use mathlib.Core.Bool.{true, false}
 use Rattle.load.specs.Stream.{openIn}
 use Rattle.table.specs.Table.{streamAt}
 use Rattle.player.specs.Round.{roundOpen}
-use Rattle.player.specs.RoundLaws.{open-none, open-next, opens-all}
+use Rattle.player.specs.RoundLaws.{open-none, open-next}
 use Rattle.player.proofs.report.films_open.Statement.{statement}
 use Rattle.player.proofs.report.films_open.Tie as tie
 
@@ -56,7 +56,7 @@ returns c =
     let l = c .before .loop in
     let a = c .before .before .before .args in
     let e : l .i ≡ a .count = omega arith in
-    opens-all (a .table .now) (a .count) (a .t) (l .films) (l .inv .2 ∙ ap (roundOpen (a .t) (a .table .now)) e)
+    (l .inv .2 ∙ ap (roundOpen (a .t) (a .table .now)) e, omega arith)
 
 pub films-open-spec : {M : Type 1} → statement M
 films-open-spec =

@@ -1,13 +1,14 @@
 -- `player::report::report` meets its contract. The invariant: the words of the first i rows were written, and `taken` has their cabs. The measure
 -- is what is left of the rows. Assumes nothing.
 use Prim.Native.Nat.{_-_}
-use mathlib.Core.Path.{_≡_, sym, _∙_}
+use mathlib.Core.Path.{_≡_, refl, sym, _∙_}
 use native.Mathlib.Omega.{arith}
 use borrow.Author.Needs.{needs}
 use mathlib.Core.Logic.{⊎-elim}
 use mathlib.Core.Bool.{true, false}
 use Rattle.load.specs.Stream.{openIn}
 use Rattle.table.specs.Table.{streamAt}
+use Rattle.player.specs.AheadLaws.{row-within}
 use Rattle.player.specs.RoundLaws.{Telling, telling-none, telling-length, telling-asks, telling-open, telling-shut, tells-all}
 use Rattle.player.proofs.report.report.Statement.{statement}
 use Rattle.player.proofs.report.report.Tie as tie
@@ -16,10 +17,10 @@ use Rattle.playing.proofs.cabs.cabs_in.Reads as cabs-in-reads
 use Rattle.playing.proofs.cabs.count_of.Reads as count-of-reads
 
 abbrev Inv-loop : tie.InvT-loop
-Inv-loop file table count ahead from t out₀ at next₀ taken₀ i₀ out next taken i = Telling file table count t out₀ at out next taken i
+Inv-loop file table count ahead width from t out₀ at next₀ taken₀ i₀ out next taken i = Telling file table count t out₀ at out next taken i
 
 abbrev μ-loop : tie.MeasureT-loop
-μ-loop file table count ahead from t out₀ at next₀ taken₀ i₀ out next taken i = count - i
+μ-loop file table count ahead width from t out₀ at next₀ taken₀ i₀ out next taken i = count - i
 
 loop-holds : tie.Need-loop-holds Inv-loop μ-loop
 loop-holds c =
@@ -40,24 +41,34 @@ stream-at-requires : tie.Need-stream-at-requires Inv-loop μ-loop
 stream-at-requires c κs = omega (arith, c .before .before .before .before .before .before .before .before .before .pre .rows .ended .size)
 
 mul-k : tie.Need-mul-k Inv-loop μ-loop
-mul-k c = omega (arith, c .before .before .before .before .before .before .before .before .before .before .pre .held .size)
+mul-k c =
+    let turn = c .before .before .before .before in
+    let start = turn .before .before .before .before .before .before in
+    let within = row-within (start .args .width) (turn .before .loop .i) (start .args .count) (turn .loop-test .taken) in
+    omega (arith, start .pre .held .size)
 
 sub-k : tie.Need-sub-k Inv-loop μ-loop
 sub-k c = omega (arith, c .before .before .before .before .before .before .before .before .before .before .pre .order)
 
 add-k : tie.Need-add-k Inv-loop μ-loop
 add-k c =
-    let start = c .before .before .before .before .before .before .before .before .before .before in
+    let turn = c .before .before .before .before in
+    let start = turn .before .before .before .before .before .before in
+    let within = row-within (start .args .width) (turn .before .loop .i) (start .args .count) (turn .loop-test .taken) in
     omega (arith, start .pre .order, start .pre .held .size, start .pre .held .few)
 
 mul-write-row : tie.Need-mul-write-row Inv-loop μ-loop
 mul-write-row c =
-    let start = c .before .before .before .before .before .before .before .before .before .before in
+    let turn = c .before .before .before .before in
+    let start = turn .before .before .before .before .before .before in
+    let within = row-within (start .args .width) (turn .before .loop .i) (start .args .count) (turn .loop-test .taken) in
     omega (arith, start .pre .order, start .pre .held .size, start .pre .held .few)
 
 shared-slice-read-write-row : tie.Need-shared-slice-read-write-row Inv-loop μ-loop
 shared-slice-read-write-row c =
-    let start = c .before .before .before .before .before .before .before .before .before .before .before in
+    let turn = c .before .before .before .before .before in
+    let start = turn .before .before .before .before .before .before in
+    let within = row-within (start .args .width) (turn .before .loop .i) (start .args .count) (turn .loop-test .taken) in
     omega (arith, start .pre .order, start .pre .held .size, start .pre .held .few)
 
 write-row-requires : tie.Need-write-row-requires Inv-loop μ-loop
@@ -69,7 +80,7 @@ write-row-requires c κs =
     let start = turn .before .before .before .before .before .before in
     let a = start .args in
     telling-asks (a .file .now) (a .table .now) (a .count) (a .t) (a .out .now) (a .at) (start .pre .room) (l .out) (l .next) (l .taken) (l .i) (l .inv)
-    (turn .loop-test .taken) (a .ahead .now) (a .from) (made .result) (start .pre .rows) (start .pre .held) (start .pre .order) (made .ensures)
+    (turn .loop-test .taken) (a .ahead .now) (a .width) (a .from) (made .result) (start .pre .rows) (start .pre .held) (start .pre .order) (made .ensures)
     (sym (taken .before .open-at .ensures) ∙ taken .if1 .taken)
 
 cabs-in-requires : tie.Need-cabs-in-requires Inv-loop μ-loop
@@ -101,6 +112,9 @@ loop-again c =
     (turn .loop-test .taken) o (c .if1 .out) (c .if1 .next) (c .if1 .taken) (w .1) (w .2) (w .3))
     (c .if1 .came)
 
+sub-films : tie.Need-sub-films Inv-loop μ-loop
+sub-films c = omega (arith, c .before .loop .inv .words .place)
+
 count-of-requires : tie.Need-count-of-requires Inv-loop μ-loop
 count-of-requires c κs = search needs
 
@@ -117,7 +131,7 @@ returns c =
     let start = c .before .before .before .before .before .before .before in
     let a = start .args in
     let e : l .i ≡ a .count = omega (arith, l .inv .some) in
-    tells-all (a .file .now) (a .table .now) (a .count) (a .t) (a .out .now) (a .at) (l .out) (l .next) (l .taken) (l .i) (c .count-of .result) e
+    tells-all (a .file .now) (a .table .now) (a .count) (a .t) (a .out .now) (a .at) (l .out) (l .next) (l .taken) (l .i) _ (c .count-of .result) e refl
     (c .count-of .ensures) (l .inv)
 
 pub report-spec : {M : Type 1} → statement M
@@ -140,6 +154,7 @@ report-spec =
     add-i
     loop-less
     loop-again
+    sub-films
     count-of-requires
     same-length
     returns)

@@ -1,7 +1,7 @@
 -- `rounds::try_play` meets its contract, by cases on the entry. Assumes nothing.
 use mathlib.Core.Path.{refl}
 use borrow.Author.Needs.{needs}
-use Rattle.replay.specs.RoundLaws.{tried-none}
+use Rattle.replay.specs.RoundLaws.{tried-of-none}
 use Rattle.replay.proofs.rounds.try_play.Statement.{statement}
 use Rattle.replay.proofs.rounds.try_play.Tie as tie
 
@@ -14,7 +14,7 @@ not-played-requires c κs = search needs
 returns : tie.Need-returns
 returns c =
     let a = c .before .before .before .before .before .before .args in
-    tried-none (a .file .now) (a .day) (a .table .now) (a .entry) (a .log .now) (a .at) _ (a .log .now) (c .not-played .ensures) refl
+    tried-of-none (a .file .now) (a .day) (a .active .now) (a .n) (a .from) (a .to) (a .entry) (a .log .now) (a .at) _ (a .log .now) (c .not-played .ensures) refl
 
 enum-known-entry : tie.Need-enum-known-entry
 enum-known-entry c = search needs
@@ -51,17 +51,17 @@ returns-2 c =
 returns-3 : tie.Need-returns-3
 returns-3 c =
     let a = c .before .before .before .before .before .before .before .before .args in
-    tried-none (a .file .now) (a .day) (a .table .now) (a .entry) (a .log .now) (a .at) _ (a .log .now) (c .not-played2 .ensures) refl
+    tried-of-none (a .file .now) (a .day) (a .active .now) (a .n) (a .from) (a .to) (a .entry) (a .log .now) (a .at) _ (a .log .now) (c .not-played2 .ensures) refl
 
 returns-4 : tie.Need-returns-4
 returns-4 c =
     let a = c .before .before .before .before .before .before .before .before .args in
-    tried-none (a .file .now) (a .day) (a .table .now) (a .entry) (a .log .now) (a .at) _ (a .log .now) (c .not-played3 .ensures) refl
+    tried-of-none (a .file .now) (a .day) (a .active .now) (a .n) (a .from) (a .to) (a .entry) (a .log .now) (a .at) _ (a .log .now) (c .not-played3 .ensures) refl
 
 returns-5 : tie.Need-returns-5
 returns-5 c =
     let a = c .before .before .before .before .before .before .before .before .args in
-    tried-none (a .file .now) (a .day) (a .table .now) (a .entry) (a .log .now) (a .at) _ (a .log .now) (c .not-played4 .ensures) refl
+    tried-of-none (a .file .now) (a .day) (a .active .now) (a .n) (a .from) (a .to) (a .entry) (a .log .now) (a .at) _ (a .log .now) (c .not-played4 .ensures) refl
 
 pub try-play-spec : {M : Type 1} → statement M
 try-play-spec =
