@@ -1,4 +1,4 @@
-// The table of a day's bookings, written anew after a call that may have changed them.
+// The table of a day's bookings, brought up to date after a call that may have changed them.
 use films::types::Catalogue;
 use limits::bounds::MAX_BOOKINGS;
 use load::stream::stream_of;
@@ -12,13 +12,20 @@ ghost use Rattle.limits.specs.Bounds.{maxBookings};
 ghost use Rattle.playing.specs.Ready.{Ready};
 ghost use Rattle.table.specs.Table.{rowWords, Tabled};
 
-// Writes the table of the day's bookings.
-fn tabulate(c: Catalogue, rows: [Booking; MAX_BOOKINGS], day: Day, file: &[u8], table: &mut [u64])
-    requires { ⌜ (Ready (now file) c day rows) × (rowWords * maxBookings ≤ length (now table)) ⌝ }
+// Writes the rows of the day's bookings from the one in place `first` on, where those before it are written.
+fn tabulate(
+    c: Catalogue,
+    rows: [Booking; MAX_BOOKINGS],
+    day: Day,
+    first: usize,
+    file: &[u8],
+    table: &mut [u64],
+)
+    requires { ⌜ (Ready (now file) c day rows) × (rowWords * maxBookings ≤ length (now table)) × Tabled c (take first rows) (now table) × (first ≤ day .count) ⌝ }
     ensures { λ _. ⌜ (Tabled c (take (day .count) rows) (now (table .exit))) × (length (now (table .exit)) ≡ length (now (table .entry))) ⌝ }
 {
     let count = day.count as usize;
-    let mut i = 0;
+    let mut i = first;
     while i < count {
         let b = rows[i];
         keep(table, i, b.name, stream_of(c, b));
@@ -26,19 +33,21 @@ fn tabulate(c: Catalogue, rows: [Booking; MAX_BOOKINGS], day: Day, file: &[u8], 
     }
 }
 
-// Writes the table of the day's bookings, where the film file is accepted; with a refused one none stands.
+// Makes the table that of the day's bookings, where the film file is accepted and the rows before place `first` are theirs already;
+// with a refused file none stands.
 pub fn keep_table(
     file: &[u8],
     c: Catalogue,
     day: Day,
     rows: [Booking; MAX_BOOKINGS],
+    first: usize,
     table: &mut [u64],
 )
-    requires { ⌜ (c .verdict ≡ 0 → Ready (now file) c day rows) × (rowWords * maxBookings ≤ length (now table)) ⌝ }
+    requires { ⌜ (c .verdict ≡ 0 → Ready (now file) c day rows) × (rowWords * maxBookings ≤ length (now table)) × (c .verdict ≡ 0 → Tabled c (take first rows) (now table) × (first ≤ day .count)) ⌝ }
     ensures { λ _. ⌜ (c .verdict ≡ 0 → Tabled c (take (day .count) rows) (now (table .exit))) × (length (now (table .exit)) ≡ length (now (table .entry))) ⌝ }
 {
     let refused = c.verdict;
     if refused == 0 {
-        tabulate(c, rows, day, file, table);
+        tabulate(c, rows, day, first, file, table);
     }
 }

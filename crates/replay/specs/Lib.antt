@@ -10,6 +10,7 @@ pub mod Contract
 
 pub mod JournalLaws
 pub mod DeskRun
+pub mod RowLaws
 pub mod RunLaws
 pub mod Pictured
 pub mod Writing

@@ -214,6 +214,11 @@ module _ (f : List ℕ) (c : Catalogue) (made : c ≡ catalogueOf f) where
   verdict-is : c .verdict ≡ verdict f
   verdict-is = ap (λ (x : Catalogue). x .verdict) made ∙ catalogue-verdict f
 
+  -- the rows of the table, with the catalogue c
+  pub between-rows : (day : Day) (rows : List Booking) (table : List ℕ) → TabledFor f day rows table → c .verdict ≡ 0
+      → Tabled c (take (day .count) rows) table
+  between-rows day rows table w e = rw made (w (sym verdict-is ∙ e) .0)
+
   module _ (day : Day) (rows : List Booking) (places : ℕ) (o v l : List ℕ) (p : Pictured (settingAt f day) (stateOf day rows places o v l)) where
     pub between-ready : c .verdict ≡ 0 → Ready f c day rows
     between-ready e =

@@ -32,6 +32,7 @@ ghost use Rattle.replay.specs.Journal.{entries};
 ghost use Rattle.replay.specs.Contract.{lentTo, result, Replays};
 ghost use Rattle.replay.specs.DeskRun.{deskRun, runResult};
 ghost use Rattle.replay.specs.Pictured.{Pictured};
+ghost use Rattle.replay.specs.RowLaws.{rowsKept};
 
 // What a replay gives: the opening's refusal or 0, how many entries were done, how many words of the log were written, the day and
 // the list's first 256 places.
@@ -56,6 +57,13 @@ fn number_of(answer: Answer) -> u32
     }
 }
 
+// How many of the table's rows serve after an entry, by the bookings before it and after it: all where none was taken out.
+fn rows_kept(before: u64, after: u64) -> usize
+    ensures { λ r. ⌜ r ≡ rowsKept before after ⌝ }
+{
+    if before <= after { before as usize } else { 0 }
+}
+
 // Carries the journal's entries out in order, from an opened day on, until one's words do not fit in what is left of the log. The
 // file's catalogue is c.
 fn run(
@@ -78,7 +86,7 @@ fn run(
     let mut table = [0u64; TABLE_WORDS];
     let mut active = [0u64; TABLE_WORDS];
     let mut ahead = [0u64; AHEAD_WORDS];
-    keep_table(file, c, day, rows, &mut table);
+    keep_table(file, c, day, rows, 0, &mut table);
     let mut today = day;
     let mut list = rows;
     let mut at = 0;
@@ -129,7 +137,8 @@ fn run(
         }
         let after = stepped.day;
         let left = stepped.rows;
-        keep_table(file, c, after, left, &mut table);
+        let kept = rows_kept(here.count, after.count);
+        keep_table(file, c, after, left, kept, &mut table);
         today = after;
         list = left;
         at = stepped.next;

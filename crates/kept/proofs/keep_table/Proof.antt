@@ -8,7 +8,8 @@ use Rattle.kept.proofs.keep_table.Tie as tie
 tabulate-requires : tie.Need-tabulate-requires
 tabulate-requires c κs =
     let start = c .before .before .before .before in
-    (start .pre .0 (c .before .if1 .taken), start .pre .1)
+    let accepted = c .before .if1 .taken in
+    (start .pre .0 accepted, start .pre .1, start .pre .2 accepted .0, start .pre .2 accepted .1)
 
 same-length : tie.Need-same-length
 same-length c = search needs

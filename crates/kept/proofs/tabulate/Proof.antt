@@ -7,20 +7,20 @@ use borrow.Author.Needs.{needs}
 use lib.ListN.{length, take, getD}
 use Rattle.model.specs.Calls.{noBooking}
 use Rattle.table.specs.Table.{rowWords, withRow, Tabled}
-use Rattle.table.specs.TableLaws.{tabled-none, length-written}
+use Rattle.table.specs.TableLaws.{length-written}
 use Rattle.playing.specs.Ready.{row-playable}
 use Rattle.kept.specs.KeptLaws.{tabled-next}
 use Rattle.kept.proofs.tabulate.Statement.{statement}
 use Rattle.kept.proofs.tabulate.Tie as tie
 
 abbrev Inv-loop : tie.InvT-loop
-Inv-loop c file table₀ rows count i₀ table i = (i ≤ count) × Tabled c (take i rows) table × (length table ≡ length table₀)
+Inv-loop c first file table₀ rows count i₀ table i = (i ≤ count) × Tabled c (take i rows) table × (length table ≡ length table₀)
 
 abbrev μ-loop : tie.MeasureT-loop
-μ-loop c file table₀ rows count i₀ table i = count - i
+μ-loop c first file table₀ rows count i₀ table i = count - i
 
 loop-holds : tie.Need-loop-holds Inv-loop μ-loop
-loop-holds c = let start = c .before .before in (omega arith, tabled-none (start .args .c) (start .args .table .now), refl)
+loop-holds c = let start = c .before .before in (start .pre .3, start .pre .2, refl)
 
 mul-b : tie.Need-mul-b Inv-loop μ-loop
 mul-b c = search needs

@@ -9,7 +9,10 @@ use borrow.Author.Needs.{needs}
 use borrow.Author.Tests.{not-true, not-false}
 use Rattle.replay.specs.LoopLaws.{Going, going-first, going-next, going-full, going-end}
 use Rattle.replay.specs.Rounds.{TabledFor}
-use Rattle.replay.specs.RoundLaws.{between-ready, between-tabled, between-standing}
+use Rattle.replay.specs.RoundLaws.{between-rows, between-ready, between-tabled, between-standing}
+use Rattle.replay.specs.RowLaws.{kept-tabled}
+use Rattle.questions.specs.Given.{settingAt}
+use Rattle.table.specs.TableLaws.{tabled-none}
 use Rattle.replay.proofs.run.Statement.{statement}
 use Rattle.replay.proofs.run.Tie as tie
 
@@ -32,7 +35,7 @@ keep-table-requires : tie.Need-keep-table-requires Inv-loop μ-loop
 keep-table-requires c κs =
     let start = c .before .before .before .before .before .before .before in
     let a = start .args in
-    (between-ready (a .file .now) (a .c) (start .pre .0) (a .day) (a .rows) (a .places) (a .opens .now) (a .reserves .now) (a .helds .now) (start .pre .1), omega arith)
+    (between-ready (a .file .now) (a .c) (start .pre .0) (a .day) (a .rows) (a .places) (a .opens .now) (a .reserves .now) (a .helds .now) (start .pre .1), omega arith, λ e. (tabled-none (a .c) _, omega arith))
 
 loop-holds : tie.Need-loop-holds Inv-loop μ-loop
 loop-holds c =
@@ -41,7 +44,7 @@ loop-holds c =
     let a = start .args in (
       going-first (a .file .now) (a .day) (a .rows) (a .places) (a .journal .now) (a .log .now) (a .opens .now) (a .reserves .now) (a .helds .now) _ (start .pre .1),
       between-tabled (a .file .now) (a .c) (start .pre .0) (a .day) (a .rows) (a .places) (a .opens .now) (a .reserves .now) (a .helds .now) (start .pre .1) _ (kept .ensures .0),
-      kept .kept .1 .1 .1 .1 .0,
+      kept .kept .1 .1 .1 .1 .1 .0,
       refl,
       refl,
     )
@@ -130,12 +133,15 @@ returns c =
     log (l .opens) (l .reserves) (l .helds) (span .play-span .result .day) (l .list) (span .play-span .result .next) (l .i) here
     (turn .loop-test .taken) (called .step .result) (last .0) (last .1 .1 .0) (last .1 .1 .1 .0) (last .1 .1 .1 .1 .0) (stepped .kept (not-true _ (c .if2 .taken)))
 
+rows-kept-requires : tie.Need-rows-kept-requires Inv-loop μ-loop
+rows-kept-requires c κs = search needs
+
 slice-aggregate-keep-table-2 : tie.Need-slice-aggregate-keep-table-2 Inv-loop μ-loop
-slice-aggregate-keep-table-2 c = sym (c .before .before .before .before .before .before .before .before .before .before .before .before .before .before .before .before .before .before .before .before .before .before .before .before .before .before .before .before .before .before .before .before .loop .inv .2)
+slice-aggregate-keep-table-2 c = sym (c .before .before .before .before .before .before .before .before .before .before .before .before .before .before .before .before .before .before .before .before .before .before .before .before .before .before .before .before .before .before .before .before .before .loop .inv .2)
 
 keep-table-requires-2 : tie.Need-keep-table-requires-2 Inv-loop μ-loop
 keep-table-requires-2 c κs =
-    let called = c .before .before .before .before .before .before .before .before .before .before .before .before .before in
+    let called = c .before .before .before .before .before .before .before .before .before .before .before .before .before .before in
     let span = called .before .before .before .before .before .before .before .before .before .before .before .before .before in
     let turn = called .before .before .before .before .before .before .before .before .before .before .before .before .before .before .before .before .before .before in
     let l = turn .before .loop in
@@ -148,23 +154,31 @@ keep-table-requires-2 c κs =
     let last = called .step .last .1 .1 .1 .1 .1 .1 in
     let stepped = rw (called .before .before .before .before .before .entry-at .ensures) at (called .step .ensures) in
     let kept = called .step .kept .1 .1 .1 .1 .1 .1 .1 .1 in
+    let done = stepped .took (not-false _ (c .before .before .before .before .if2 .left)) in
     let next =
     going-next (a .file .now) (a .day) (a .rows) (a .places) (a .journal .now) (a .log .now) (a .opens .now) (a .reserves .now) (a .helds .now) _
     log (l .opens) (l .reserves) (l .helds) (span .play-span .result .day) (l .list) (span .play-span .result .next) (l .i) here
-    (turn .loop-test .taken) (called .step .result) (last .0) (last .1 .1 .0) (last .1 .1 .1 .0) (last .1 .1 .1 .1 .0) (stepped .took (not-false _ (c .before .before .before .if2 .left)))
+    (turn .loop-test .taken) (called .step .result) (last .0) (last .1 .1 .0) (last .1 .1 .1 .0) (last .1 .1 .1 .1 .0) done
     (kept .0) (kept .1 .0) (kept .1 .1 .0) in
     let after = called .step .result in
-    (between-ready (a .file .now) (a .c) (start .pre .0) (after .day) (after .rows) (a .places) (last .1 .1 .0) (last .1 .1 .1 .0) (last .1 .1 .1 .1 .0) (next .pictured), omega (arith, l .inv .2))
+    let same = span .play-span .ensures .same in (
+      between-ready (a .file .now) (a .c) (start .pre .0) (after .day) (after .rows) (a .places) (last .1 .1 .0) (last .1 .1 .1 .0) (last .1 .1 .1 .1 .0) (next .pictured),
+      omega (arith, l .inv .2),
+      λ e.
+          kept-tabled (settingAt (a .file .now) (span .play-span .result .day)) (a .c) (span .play-span .result .day) (l .list) (a .places) (l .opens) (l .reserves) (l .helds) (l .table)
+          (rw same (between-rows (a .file .now) (a .c) (start .pre .0) (l .today) (l .list) (l .table) (l .inv .1) e)) _ log (span .play-span .result .next) after (last .0)
+          (last .1 .1 .0) (last .1 .1 .1 .0) (last .1 .1 .1 .1 .0) done (c .before .rows-kept .result) (c .before .rows-kept .ensures),
+    )
 
 add-i : tie.Need-add-i Inv-loop μ-loop
-add-i c = let turn = c .before .before .before .before .before .before .before .before .before .before .before .before .before .before .before .before .before .before .before .before .before .before .before .before .before .before .before .before .before .before .before .before .before in record { fits = omega (arith, turn .loop-test .taken, turn .before .before .before .before .before .before .before .before .before .before .before .good) }
+add-i c = let turn = c .before .before .before .before .before .before .before .before .before .before .before .before .before .before .before .before .before .before .before .before .before .before .before .before .before .before .before .before .before .before .before .before .before .before in record { fits = omega (arith, turn .loop-test .taken, turn .before .before .before .before .before .before .before .before .before .before .before .good) }
 
 loop-less-2 : tie.Need-loop-less-2 Inv-loop μ-loop
-loop-less-2 c = let turn = c .before .before .before .before .before .before .before .before .before .before .before .before .before .before .before .before .before .before .before .before .before .before .before .before .before .before .before .before .before .before .before .before .before in omega (arith, turn .loop-test .taken)
+loop-less-2 c = let turn = c .before .before .before .before .before .before .before .before .before .before .before .before .before .before .before .before .before .before .before .before .before .before .before .before .before .before .before .before .before .before .before .before .before .before in omega (arith, turn .loop-test .taken)
 
 loop-again-2 : tie.Need-loop-again-2 Inv-loop μ-loop
 loop-again-2 c =
-    let called = c .before .before .before .before .before .before .before .before .before .before .before .before .before .before .before in
+    let called = c .before .before .before .before .before .before .before .before .before .before .before .before .before .before .before .before in
     let span = called .before .before .before .before .before .before .before .before .before .before .before .before .before in
     let turn = called .before .before .before .before .before .before .before .before .before .before .before .before .before .before .before .before .before .before in
     let l = turn .before .loop in
@@ -180,12 +194,12 @@ loop-again-2 c =
     let next =
     going-next (a .file .now) (a .day) (a .rows) (a .places) (a .journal .now) (a .log .now) (a .opens .now) (a .reserves .now) (a .helds .now) _
     log (l .opens) (l .reserves) (l .helds) (span .play-span .result .day) (l .list) (span .play-span .result .next) (l .i) here
-    (turn .loop-test .taken) (called .step .result) (last .0) (last .1 .1 .0) (last .1 .1 .1 .0) (last .1 .1 .1 .1 .0) (stepped .took (not-false _ (c .before .before .before .before .before .if2 .left)))
+    (turn .loop-test .taken) (called .step .result) (last .0) (last .1 .1 .0) (last .1 .1 .1 .0) (last .1 .1 .1 .1 .0) (stepped .took (not-false _ (c .before .before .before .before .before .before .if2 .left)))
     (kept .0) (kept .1 .0) (kept .1 .1 .0) in
     let after = called .step .result in (
       next,
       between-tabled (a .file .now) (a .c) (start .pre .0) (after .day) (after .rows) (a .places) (last .1 .1 .0) (last .1 .1 .1 .0) (last .1 .1 .1 .1 .0) (next .pictured) _ (c .before .keep-table2 .ensures .0),
-      c .before .keep-table2 .kept .1 .1 .1 .1 .0 ∙ l .inv .2,
+      c .before .keep-table2 .kept .1 .1 .1 .1 .1 .0 ∙ l .inv .2,
       span .play-span .kept .1 .1 .1 .1 .0 ∙ l .inv .3,
       span .play-span .kept .1 .1 .1 .1 .1 .0 ∙ l .inv .4,
     )
@@ -231,6 +245,7 @@ run-spec =
     same-length-3
     same-length-4
     returns
+    rows-kept-requires
     slice-aggregate-keep-table-2
     keep-table-requires-2
     add-i
