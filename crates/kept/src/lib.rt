@@ -12,27 +12,6 @@ ghost use Rattle.limits.specs.Bounds.{maxBookings};
 ghost use Rattle.playing.specs.Ready.{Ready};
 ghost use Rattle.table.specs.Table.{rowWords, Tabled};
 
-// Writes the rows of the day's bookings from the one in place `first` on, where those before it are written.
-fn tabulate(
-    c: Catalogue,
-    rows: [Booking; MAX_BOOKINGS],
-    day: Day,
-    first: usize,
-    file: &[u8],
-    table: &mut [u64],
-)
-    requires { ⌜ (Ready (now file) c day rows) × (rowWords * maxBookings ≤ length (now table)) × Tabled c (take first rows) (now table) × (first ≤ day .count) ⌝ }
-    ensures { λ _. ⌜ (Tabled c (take (day .count) rows) (now (table .exit))) × (length (now (table .exit)) ≡ length (now (table .entry))) ⌝ }
-{
-    let count = day.count as usize;
-    let mut i = first;
-    while i < count {
-        let b = rows[i];
-        keep(table, i, b.name, stream_of(c, b));
-        i += 1;
-    }
-}
-
 // Makes the table that of the day's bookings, where the film file is accepted and the rows before place `first` are theirs already;
 // with a refused file none stands.
 pub fn keep_table(
@@ -47,7 +26,14 @@ pub fn keep_table(
     ensures { λ _. ⌜ (c .verdict ≡ 0 → Tabled c (take (day .count) rows) (now (table .exit))) × (length (now (table .exit)) ≡ length (now (table .entry))) ⌝ }
 {
     let refused = c.verdict;
-    if refused == 0 {
-        tabulate(c, rows, day, first, file, table);
+    if refused != 0 {
+        return;
+    }
+    let count = day.count as usize;
+    let mut i = first;
+    while i < count {
+        let b = rows[i];
+        keep(table, i, b.name, stream_of(c, b));
+        i += 1;
     }
 }

@@ -1,7 +1,6 @@
 // The report of a round from the table and from what the bookings hold: the words of a line for each film open, and the cabs
 // served.
 use load::stream::Stream;
-use playing::cabs::cabs_in;
 use playing::cabs::count_of;
 use retrieval::send_at;
 use table::rows::write_four;
@@ -13,6 +12,7 @@ ghost use Prim.Native.Nat.{_+_, _*_, _≤_, _<_, min};
 ghost use lib.ListN.{length};
 ghost use Rattle.load.specs.Basic.{Playable};
 ghost use Rattle.load.specs.Stream.{endOf, holdsIn};
+ghost use Rattle.playing.specs.CabLaws.{cabsIn};
 ghost use Rattle.table.specs.Words.{Wrote};
 ghost use Rattle.player.specs.Round.{heldWords, roundOpen, Tellable, Reports};
 ghost use Rattle.table.specs.Table.{Ended};
@@ -51,6 +51,14 @@ fn write_row(
     write_four(out, at, name, smaller(x.reserve, held), send, held)
 }
 
+// The cabs that a stream that is open in round t keeps busy: none before it shows.
+fn cabs_open(x: Stream, t: usize) -> u64
+    requires { ⌜ (x .start ≤ t) × (t < endOf x) ⌝ }
+    ensures { λ r. ⌜ r ≡ cabsIn t x ⌝ }
+{
+    if t - x.start < x.prefetch { 0 } else { x.cabs }
+}
+
 // Writes the lines of round t from `at` on, for each of the first `count` bookings that is open in it. `ahead` has what they hold in
 // the rounds from `from` on, in rows of `width` words.
 pub fn report(
@@ -76,7 +84,7 @@ pub fn report(
             let x = stream_at(table, i);
             let k = width * i + (t - from);
             next = write_row(file, name, x, t, ahead[k], out, next);
-            taken = taken | cabs_in(x, t);
+            taken = taken | cabs_open(x, t);
         }
         i += 1;
     }

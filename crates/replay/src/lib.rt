@@ -136,11 +136,10 @@ fn run(
             };
         }
         let after = stepped.day;
-        let left = stepped.rows;
+        list = stepped.rows;
         let kept = rows_kept(here.count, after.count);
-        keep_table(file, c, after, left, kept, &mut table);
+        keep_table(file, c, after, list, kept, &mut table);
         today = after;
-        list = left;
         at = stepped.next;
         i += 1;
     }

@@ -65,9 +65,9 @@ fn step_book(
 {
     let booked = book_kept(file, c, day, rows, places, q, opens, reserves, helds);
     let answer = booked.answer;
+    let next = write_answer(log, at, answer);
     let after = booked.day;
     let left = booked.rows;
-    let next = write_answer(log, at, answer);
     Stepped {
         done: true,
         next,
@@ -95,9 +95,9 @@ fn step_drop(
 {
     let dropped = drop_kept(file, c, day, rows, places, name, opens, reserves, helds);
     let answer = dropped.answer;
+    let next = write_answer(log, at, answer);
     let after = dropped.day;
     let left = dropped.rows;
-    let next = write_answer(log, at, answer);
     Stepped {
         done: true,
         next,

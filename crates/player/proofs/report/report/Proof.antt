@@ -7,13 +7,13 @@ use borrow.Author.Needs.{needs}
 use mathlib.Core.Logic.{⊎-elim}
 use mathlib.Core.Bool.{true, false}
 use Rattle.load.specs.Stream.{openIn}
+use Rattle.load.specs.StreamLaws.{open-place}
 use Rattle.table.specs.Table.{streamAt}
 use Rattle.player.specs.AheadLaws.{row-within}
 use Rattle.player.specs.RoundLaws.{Telling, telling-none, telling-length, telling-asks, telling-open, telling-shut, tells-all}
 use Rattle.player.proofs.report.report.Statement.{statement}
 use Rattle.player.proofs.report.report.Tie as tie
 use Rattle.player.proofs.report.write_row.Reads as write-row-reads
-use Rattle.playing.proofs.cabs.cabs_in.Reads as cabs-in-reads
 use Rattle.playing.proofs.cabs.count_of.Reads as count-of-reads
 
 abbrev Inv-loop : tie.InvT-loop
@@ -83,8 +83,14 @@ write-row-requires c κs =
     (turn .loop-test .taken) (a .ahead .now) (a .width) (a .from) (made .result) (start .pre .rows) (start .pre .held) (start .pre .order) (made .ensures)
     (sym (taken .before .open-at .ensures) ∙ taken .if1 .taken)
 
-cabs-in-requires : tie.Need-cabs-in-requires Inv-loop μ-loop
-cabs-in-requires c κs = search needs
+cabs-open-requires : tie.Need-cabs-open-requires Inv-loop μ-loop
+cabs-open-requires c κs =
+    let made = c .before .before .before .before .before .stream-at in
+    let taken = c .before .before .before .before .before .before .before in
+    let turn = taken .before .before in
+    let a = turn .before .before .before .before .before .before .args in
+    let o = sym (taken .before .open-at .ensures) ∙ taken .if1 .taken in
+    rw (made .ensures) (open-place (a .t) (streamAt (a .table .now) (turn .before .loop .i)) o)
 
 add-i : tie.Need-add-i Inv-loop μ-loop
 add-i c = search needs
@@ -150,7 +156,7 @@ report-spec =
     mul-write-row
     shared-slice-read-write-row
     write-row-requires
-    cabs-in-requires
+    cabs-open-requires
     add-i
     loop-less
     loop-again

@@ -27,8 +27,8 @@ same-length-4 c = search needs
 
 returns : tie.Need-returns
 returns c =
-    let wrote = c .before .before in
-    let called = wrote .before .before .before .before .before .before .before .before .before .before in
+    let wrote = c .before .before .before .before in
+    let called = wrote .before .before .before .before .before .before .before .before in
     let start = called .before .before .before .before .before .before .before .before .before in
     let a = start .args in
     let after = called .book-kept .last .1 .1 .1 .1 .1 .1 in
