@@ -19,6 +19,10 @@ spell (suc k) n = cond (ltb n 10) ((digitZero + n) ∷ []) (spell k (n / 10) ++ 
 abbrev pub decimal : ℕ → List ℕ
 decimal n = spell maxDigits n
 
+-- the two digits of a number below a hundred
+abbrev pub twoDigits : ℕ → List ℕ
+twoDigits n = (digitZero + n / 10) ∷ (digitZero + n % 10) ∷ []
+
 -- a field that is not the first
 abbrev pub field : ℕ → List ℕ
 field n = space ∷ decimal n
