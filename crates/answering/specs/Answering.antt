@@ -1,11 +1,10 @@
 -- A command answered: from what its call leaves, and its text in the buffer, to the step of the session. Assumes nothing.
 use mathlib.Core.Path.{_≡_, refl, sym, ap, _∙_}
-use mathlib.Core.Bool.{true, false}
 use mathlib.Core.List.{List, [], _++_, append-nil}
 use Prim.Native.Nat.{ℕ, _+_, _≤_}
 use native.Mathlib.Omega.{arith}
-use lib.ListN.{length, take, drop, length-append, length-take, length-drop}
-use lib.Seq.{take-append-add, take-at, take-all, length-take-le}
+use lib.ListN.{length, take, drop}
+use lib.Seq.{take-append-add, take-at}
 use borrow.Author.Tests.{le-leb}
 use Rattle.limits.specs.Bounds.{hallPlaces}
 use Rattle.limits.specs.Refusals.{commandForm}
@@ -15,8 +14,6 @@ use Rattle.model.specs.declared.Answer.{Answer}
 use Rattle.model.specs.declared.Answer.the-variants.{Refused}
 use Rattle.model.specs.declared.Request.{Request}
 use Rattle.questions.specs.Given.{settingAt}
-use Rattle.opening.specs.Contract.{asked, Opens}
-use Rattle.opening.specs.declared.Opened.{Opened}
 use Rattle.booking.specs.Contract.{Leaves}
 use Rattle.dropping.specs.Contract.{Drops}
 use Rattle.dropping.specs.declared.DropOutcome.{DropOutcome}
@@ -27,18 +24,17 @@ use Rattle.model.specs.declared.Line.{Line}
 use Rattle.playing.specs.Lines.{padded}
 use Rattle.playing.specs.Contract.{linesIn, Plays}
 use Rattle.commands.specs.declared.Command.{Command}
-use Rattle.commands.specs.declared.Command.the-variants.{Open, Book, Drop, Play, Bad}
+use Rattle.commands.specs.declared.Command.the-variants.{Book, Drop, Play, Bad}
 use Rattle.text.specs.Text.{answerText, reportText}
 use Rattle.text.specs.Write.{Wrote}
 use Rattle.text.specs.Digits.{outputBytes, report-fits}
 use Rattle.console.specs.Session.{SessionState, lentBy, outcomeOf, stateAfter, nameIn, linesTold, textOf}
 use Rattle.console.specs.Contract.{After, leftAs, Carries, replyText, inFront, stepOf}
 use Rattle.console.specs.declared.Session.{Session}
-use Rattle.console.specs.Stepping.{step-few, step-done}
-use Rattle.console.specs.Laws.{open-silent, book-silent, drop-silent, told}
-use Rattle.console.specs.Carrying.{open-carries, book-carries, drop-carries, play-carries, bad-carries}
-use Rattle.answering.specs.Contract.{sessionAt, quietAfter, TriesQuiet}
-use Rattle.answering.specs.declared.Quiet.{Quiet}
+use Rattle.console.specs.Stepping.{step-done}
+use Rattle.console.specs.Laws.{book-silent, drop-silent, told}
+use Rattle.console.specs.Carrying.{book-carries, drop-carries, play-carries, bad-carries}
+use Rattle.answering.specs.Contract.{sessionAt}
 
 -- the text of an answer with no line of a report
 reply-silent : (name round : ℕ) (a : Answer) (lines : List Line) → linesIn a ≡ 0 → answerText name round a ≡ replyText name round a lines
@@ -102,15 +98,6 @@ module _ (file : List ℕ) (day : Day) (rows : List Booking) (opens reserves hel
   bad-step new n v =
       step-silent file s Bad day rows (Refused commandForm) opens reserves helds (bad-carries file session opens reserves helds) refl buffer room new n v
 
-  pub open-step : (rounds disk memory : ℕ) (r : Opened) (opens′ reserves′ helds′ : List ℕ)
-      → Opens (settingAt file (asked rounds disk memory)) lent day r opens′ reserves′ helds′
-      → (new : List ℕ) (n : ℕ) → Wrote buffer 0 (answerText 0 (day .now) (r .answer)) new n
-      → record { state = sessionAt (r .day) rows opens′ reserves′ helds′; buffer = new; count = n } ≡ stepOf file s (Open rounds disk memory) buffer
-  open-step rounds disk memory r opens′ reserves′ helds′ w new n v =
-      let none : linesIn (r .answer) ≡ 0 = ap linesIn (w .answer) ∙ open-silent (settingAt file (asked rounds disk memory)) lent in
-      step-silent file s (Open rounds disk memory) (r .day) rows (r .answer) opens′ reserves′ helds′
-      (open-carries file session opens reserves helds rounds disk memory r opens′ reserves′ helds′ w) none buffer room new n v
-
   pub book-step : (q : Request) (a : Answer) (after : Day) (left : List Booking) (opens′ reserves′ helds′ : List ℕ)
       → Leaves S (bookCall S lent q) a after left opens′ reserves′ helds′
       → (new : List ℕ) (n : ℕ) → Wrote buffer 0 (answerText (q .name) (day .now) a) new n
@@ -133,22 +120,3 @@ module _ (file : List ℕ) (day : Day) (rows : List Booking) (opens reserves hel
       → record { state = sessionAt (r .day) rows opens reserves helds; buffer = new; count = n } ≡ stepOf file s Play buffer
   play-step r w new n v =
       step-done file s Play (leftAs (r .day) rows (r .answer) (r .lines)) opens reserves helds (play-carries file session opens reserves helds r w) buffer room 0 refl new n v
-
--- the lines of a played round are few enough
-pub play-few : (file : List ℕ) (day : Day) (rows : List Booking) (r : P.Played) → Plays file day rows hallPlaces hallPlaces r
-    → linesIn (r .answer) ≤ hallPlaces
-play-few file day rows r w =
-    step-few file (sessionAt day rows [] [] []) Play (leftAs (r .day) rows (r .answer) (r .lines)) [] [] []
-    (play-carries file (record { day = day; rows = rows }) [] [] [] r w)
-
--- ---- Carried out, or left
-
-module _ (file : List ℕ) (day : Day) (rows : List Booking) (opens reserves helds : List ℕ) (c : Command) (buffer : List ℕ) (r : Quiet)
-    (opens′ reserves′ helds′ buffer′ : List ℕ) where
-  pub tries-done : r .done ≡ true → quietAfter r rows opens′ reserves′ helds′ buffer′ ≡ stepOf file (sessionAt day rows opens reserves helds) c buffer
-      → TriesQuiet file day rows opens reserves helds c buffer r opens′ reserves′ helds′ buffer′
-  tries-done d e = record { took = λ t. e; left = λ f. let z : _≡_ {A = ℕ} 0 1 = cc in absurd (omega arith) }
-
-  pub tries-left : r .done ≡ false → sessionAt day rows opens′ reserves′ helds′ ≡ sessionAt day rows opens reserves helds
-      → TriesQuiet file day rows opens reserves helds c buffer r opens′ reserves′ helds′ buffer′
-  tries-left d e = record { took = λ t. let z : _≡_ {A = ℕ} 0 1 = cc in absurd (omega arith); left = λ f. e }

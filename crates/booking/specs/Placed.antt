@@ -28,7 +28,6 @@ use Rattle.model.specs.declared.Request.{Request}
 use Rattle.model.specs.declared.Day.{Day}
 use Rattle.model.specs.declared.Answer.the-variants.{Refused, Booked}
 use Rattle.load.specs.Stream.{noStream, lengthOf, profileOf}
-use Rattle.load.specs.Streams.{streamsOf}
 use Rattle.load.specs.Basic.{Playable, Within, EachOf}
 use Rattle.load.specs.declared.stream.Stream.{Stream}
 use Rattle.sheet.specs.Memory.{Agrees}
@@ -41,11 +40,11 @@ use Rattle.questions.specs.Given.{settingAt}
 use Rattle.questions.specs.Numbers.{roundsHold, dayHolds, limitsHold, sheetHolds, soundHolds, standingAsks}
 use Rattle.questions.specs.Standing.{Standing, standing-held, standing-numbered, standing-after}
 use Rattle.questions.specs.Tied.{Tied, AllTied, tied-rounds}
-use Rattle.questions.specs.ListSound.{all-tied-taken, length-streams, sound-playable}
+use Rattle.questions.specs.ListSound.{StreamsOf, all-tied-taken, length-streams, sound-playable}
 use Rattle.questions.specs.SheetOf.{SheetOf, SheetKept, HeldKept, laid-sheet, sheet-laid, kept-agrees}
 use Rattle.questions.specs.Start.{first-query}
 use Rattle.booking.specs.Contract.{Leaves, bookAsks}
-use Rattle.booking.specs.Own.{ownAsks, own-same, requestOf, request-tied}
+use Rattle.booking.specs.Own.{maxLength, ownAsks, own-same, requestOf, request-tied}
 use Rattle.booking.specs.Place.{film-small, laid-window}
 
 -- the code's questions are the model's
@@ -87,17 +86,17 @@ all-tied-snoc S f (c ∷ bs) (z ∷ xs) t b x u = (t .0, all-tied-snoc S f bs xs
 -- what a start s that was found leaves to be done, where o, r and h are the sheet of the standing bookings: it takes the request's
 -- stream, the record has its place, and with both done the call is the model's
 pub record Started (f : List ℕ) (day : Day) (rows : List Booking) (places : ℕ) (q : Request) (o₀ r₀ h₀ o r h : List ℕ) (s : ℕ) : Type 0 where
-  pub raises : Raises f (startAt s (requestOf f q)) (day .rounds) o r h
+  pub raises : Raises (startAt s (requestOf f q)) (profileOf f (requestOf f q)) (day .rounds) o r h
   pub count : day .count < maxBookings
   pub film : q .film < 2 ^ 16
   pub prefetch : q .prefetch ≤ maxPrefetch
   pub reserve : q .reserve ≤ maxReserve
   pub start : s ≤ maxDay
-  pub leaves : (o′ r′ h′ : List ℕ) → Raised f (startAt s (requestOf f q)) (day .rounds) o r h o′ r′ h′
+  pub leaves : (o′ r′ h′ : List ℕ) → Raised (startAt s (requestOf f q)) (profileOf f (requestOf f q)) (day .rounds) o r h o′ r′ h′
       → Leaves (settingAt f day) (bookCall (settingAt f day) (stateOf day rows places o₀ r₀ h₀) q) (Booked s)
       (record { rounds = day .rounds; disk = day .disk; memory = day .memory; now = day .now; count = day .count + 1 })
       (set rows (day .count) (recordOf q s)) o′ r′ h′
-  pub lengths : (o′ r′ h′ : List ℕ) → Raised f (startAt s (requestOf f q)) (day .rounds) o r h o′ r′ h′
+  pub lengths : (o′ r′ h′ : List ℕ) → Raised (startAt s (requestOf f q)) (profileOf f (requestOf f q)) (day .rounds) o r h o′ r′ h′
       → (length o′ ≡ length o₀) × (length r′ ≡ length r₀) × (length h′ ≡ length h₀)
 
 module _ (f : List ℕ) (day : Day) (rows : List Booking) (places : ℕ) (q : Request) (o₀ r₀ h₀ : List ℕ) (bytes : Bytes f)
@@ -129,9 +128,15 @@ module _ (f : List ℕ) (day : Day) (rows : List Booking) (places : ℕ) (q : Re
       asked S bs (day .count) places (day .now) q
       (rw (eq-eqb (verdict f) 0 (stands .accepted)) (sym (standing-after f day rows places (length o₀) (length r₀) (length h₀) _ held-before) ∙ passed))
 
+  -- the request's stream is no longer than any
+  pub short : lengthOf y ≤ maxLength
+  short =
+      let t = request-tied f day (stands .accepted) q in
+      omega (arith, asks .fair .prefetch, t .prefetch, t .stored .few)
+
   -- ---- the sheet of the standing bookings
 
-  module _ (xs : List Stream) (made : xs ≡ streamsOf (catalogueOf f) (day .count) rows) where
+  module _ (xs : List Stream) (made : StreamsOf (catalogueOf f) (day .count) rows xs) where
     there : day .count ≤ length rows
     there = omega (arith, full, stands .few)
 

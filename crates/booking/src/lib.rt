@@ -7,9 +7,10 @@ use append::start_at;
 use films::catalogue::catalogue;
 use films::types::Catalogue;
 use limits::bounds::MAX_BOOKINGS;
+use limits::bounds::MAX_PREFETCH;
+use limits::bounds::MAX_ROUNDS;
 use limits::refusals::NO_START;
 use load::stream::Stream;
-use load::stream::streams_of;
 use model::Answer;
 use model::Booking;
 use model::Day;
@@ -21,10 +22,15 @@ use request::requested;
 use search::Found;
 use search::first_start;
 use sheet::sheet::add_stream;
+use table::streams::TABLE_WORDS;
+use table::tabulate::tabulate;
 ghost use mathlib.Core.Path.{_≡_};
 ghost use mathlib.Core.Bool.{true};
+ghost use mathlib.Core.List.{List};
+ghost use Prim.Native.Nat.{ℕ, min};
 ghost use lib.ListN.{length, take};
 ghost use Rattle.laws.specs.Questions.{refusal};
+ghost use Rattle.laws.specs.Words.{Bytes};
 ghost use Rattle.films.specs.Catalogue.{catalogueOf};
 ghost use Rattle.model.specs.Calls.{bookQuestions, bookCall};
 ghost use Rattle.model.specs.Code.{stateOf};
@@ -33,7 +39,12 @@ ghost use Rattle.model.specs.Fit.{FitsAt};
 ghost use Rattle.questions.specs.Given.{settingAt};
 ghost use Rattle.questions.specs.Numbers.{standingAsks};
 ghost use Rattle.questions.specs.SheetOf.{SheetKept, HeldKept};
-ghost use Rattle.booking.specs.Contract.{Leaves, Placing, bookAsks};
+ghost use Rattle.table.specs.Streams.{streams};
+ghost use Rattle.table.specs.Table.{Tabled};
+ghost use Rattle.questions.specs.Events.{Gathered};
+ghost use Rattle.questions.specs.Listed.{Workspace};
+ghost use Rattle.booking.specs.Contract.{Leaves, Placing, Placeable};
+ghost use Rattle.booking.specs.Own.{requestOf};
 
 // What a booking gives: the answer, the day and the list's first 256 places.
 pub struct Outcome {
@@ -42,31 +53,37 @@ pub struct Outcome {
     pub rows: [Booking; MAX_BOOKINGS],
 }
 
-// Places a request whose questions but 22 have passed on the sheet of the standing bookings, whose streams are xs: the first
-// start of the window that fits gets a record and is added to the sheet.
+// rounds that a stream is open, at most
+const MAX_LENGTH: usize = MAX_PREFETCH as usize + MAX_ROUNDS;
+
+fn smaller(a: u64, b: u64) -> u64
+    ensures { λ r. ⌜ r ≡ min a b ⌝ }
+{
+    if a < b { a } else { b }
+}
+
+// Places a request whose questions but 22 have passed on the sheet of the standing bookings, whose streams the table has: the first
+// start of the window that fits gets a record and is added to the sheet. The request's stream is y, which holds `profile`.
 fn place_on(
-    file: &[u8],
-    c: Catalogue,
     day: Day,
     rows: [Booking; MAX_BOOKINGS],
-    places: u64,
     q: Request,
-    xs: [Stream; MAX_BOOKINGS],
+    table: &[u64],
+    y: Stream,
+    profile: &[u64],
     opens: &mut [u64],
     reserves: &mut [u64],
     helds: &mut [u64],
 ) -> Outcome
-    requires { ⌜ Placing (now file) c day rows places q xs (now opens) (now reserves) (now helds) ⌝ }
-    ensures { λ r. ⌜ Leaves (settingAt (now (file .entry)) day) (bookCall (settingAt (now (file .entry)) day) (stateOf day rows places (now (opens .entry)) (now (reserves .entry)) (now (helds .entry))) q) (r .answer) (r .day) (r .rows) (now (opens .exit)) (now (reserves .exit)) (now (helds .exit)) ⌝ }
+    requires { ⌜ Placeable day rows q (now table) y (now profile) (now opens) (now reserves) (now helds) ⌝ }
+    ensures { λ r. ⌜ ((f : List ℕ) (places : ℕ) → Bytes f → Placing f day rows places q (streams (now (table .entry))) y (now (profile .entry)) (now (opens .entry)) (now (reserves .entry)) (now (helds .entry)) → Leaves (settingAt f day) (bookCall (settingAt f day) (stateOf day rows places (now (opens .entry)) (now (reserves .entry)) (now (helds .entry))) q) (r .answer) (r .day) (r .rows) (now (opens .exit)) (now (reserves .exit)) (now (helds .exit))) ⌝ }
 {
     let count = day.count as usize;
-    let rounds = day.rounds as usize;
-    let y = requested(c, q);
     let found = first_start(
-        file,
-        xs,
+        table,
         count,
         y,
+        profile,
         day.disk,
         day.memory,
         opens,
@@ -77,7 +94,14 @@ fn place_on(
     );
     match found {
         Found::At(s) => {
-            add_stream(file, start_at(y, s), rounds, opens, reserves, helds);
+            add_stream(
+                start_at(y, s),
+                profile,
+                day.rounds as usize,
+                opens,
+                reserves,
+                helds,
+            );
             Outcome {
                 answer: Answer::Booked(s),
                 day: Day {
@@ -98,55 +122,29 @@ fn place_on(
     }
 }
 
-// Places a request whose questions but 22 have passed: the sheet of the standing bookings is laid down, whatever stood there,
-// and the request is placed on it. Where `same`, the lent sums of bytes held are right.
-fn place(
-    file: &[u8],
-    c: Catalogue,
-    day: Day,
-    rows: [Booking; MAX_BOOKINGS],
-    places: u64,
-    q: Request,
-    same: bool,
-    opens: &mut [u64],
-    reserves: &mut [u64],
-    helds: &mut [u64],
-) -> Outcome
-    requires { ⌜ (c ≡ catalogueOf (now file)) × (refusal (bookAsks (now file) day rows places q (length (now opens)) (length (now reserves)) (length (now helds))) ≡ 0) × (same ≡ true → HeldKept (settingAt (now file) day) (take (day .count) rows) (now helds)) ⌝ }
-    ensures { λ r. ⌜ Leaves (settingAt (now (file .entry)) day) (bookCall (settingAt (now (file .entry)) day) (stateOf day rows places (now (opens .entry)) (now (reserves .entry)) (now (helds .entry))) q) (r .answer) (r .day) (r .rows) (now (opens .exit)) (now (reserves .exit)) (now (helds .exit)) ⌝ }
-{
-    let count = day.count as usize;
-    let xs = streams_of(c, rows, count);
-    lay_checked(
-        file,
-        xs,
-        count,
-        day.rounds as usize,
-        same,
-        opens,
-        reserves,
-        helds,
-    );
-    place_on(file, c, day, rows, places, q, xs, opens, reserves, helds)
-}
-
-// `book_standing` where, if `same`, the lent sums of bytes held are those of the standing bookings.
+// Booking where the file's questions, 14, 15, 11 and 16 have passed: where booking's own pass too, the sheet of the standing bookings is laid
+// down, whatever stood there, and the request is placed on it. The table is that of the standing bookings, `opened` and `closed` have
+// the rounds in which they open and end, and where `same` the lent sums of bytes held are right. The request's stream is y.
 fn book_checked(
     file: &[u8],
-    c: Catalogue,
     day: Day,
     rows: [Booking; MAX_BOOKINGS],
     places: u64,
     q: Request,
+    table: &[u64],
+    y: Stream,
+    opened: &[u64],
+    closed: &[u64],
     same: bool,
     opens: &mut [u64],
     reserves: &mut [u64],
     helds: &mut [u64],
 ) -> Outcome
-    requires { ⌜ (c ≡ catalogueOf (now file)) × (refusal (standingAsks (now file) day rows places (length (now opens)) (length (now reserves)) (length (now helds))) ≡ 0) × (same ≡ true → HeldKept (settingAt (now file) day) (take (day .count) rows) (now helds)) ⌝ }
+    requires { ⌜ (y ≡ requestOf (now file) q) × (refusal (standingAsks (now file) day rows places (length (now opens)) (length (now reserves)) (length (now helds))) ≡ 0) × Workspace (now table) (now opened) (now closed) × Tabled (catalogueOf (now file)) (take (day .count) rows) (now table) × Gathered (streams (now table)) (day .count) (now opened) (now closed) × (same ≡ true → HeldKept (settingAt (now file) day) (take (day .count) rows) (now helds)) ⌝ }
     ensures { λ r. ⌜ Leaves (settingAt (now (file .entry)) day) (bookCall (settingAt (now (file .entry)) day) (stateOf day rows places (now (opens .entry)) (now (reserves .entry)) (now (helds .entry))) q) (r .answer) (r .day) (r .rows) (now (opens .exit)) (now (reserves .exit)) (now (helds .exit)) ⌝ }
 {
-    let number = own_number(file, c, day, rows, places, q);
+    let mut profile = [0u64; MAX_LENGTH];
+    let number = own_number(file, day, table, places, q, y, &mut profile);
     if number != 0 {
         return Outcome {
             answer: Answer::Refused(number),
@@ -154,28 +152,34 @@ fn book_checked(
             rows,
         };
     }
-    place(file, c, day, rows, places, q, same, opens, reserves, helds)
+    lay_checked(
+        file,
+        table,
+        day.count as usize,
+        opened,
+        closed,
+        day.rounds as usize,
+        same,
+        opens,
+        reserves,
+        helds,
+    );
+    let n = y.prefetch + y.rounds;
+    place_on(
+        day,
+        rows,
+        q,
+        table,
+        y,
+        &profile[..n],
+        opens,
+        reserves,
+        helds,
+    )
 }
 
-// Booking where the file's questions, 14, 15, 11 and 16 have passed; c is the file's catalogue.
-pub fn book_standing(
-    file: &[u8],
-    c: Catalogue,
-    day: Day,
-    rows: [Booking; MAX_BOOKINGS],
-    places: u64,
-    q: Request,
-    opens: &mut [u64],
-    reserves: &mut [u64],
-    helds: &mut [u64],
-) -> Outcome
-    requires { ⌜ (c ≡ catalogueOf (now file)) × (refusal (standingAsks (now file) day rows places (length (now opens)) (length (now reserves)) (length (now helds))) ≡ 0) ⌝ }
-    ensures { λ r. ⌜ Leaves (settingAt (now (file .entry)) day) (bookCall (settingAt (now (file .entry)) day) (stateOf day rows places (now (opens .entry)) (now (reserves .entry)) (now (helds .entry))) q) (r .answer) (r .day) (r .rows) (now (opens .exit)) (now (reserves .exit)) (now (helds .exit)) ⌝ }
-{
-    book_checked(file, c, day, rows, places, q, false, opens, reserves, helds)
-}
-
-// `book_standing` where the sheet is that of the standing bookings already, so that it is not laid down again.
+// Booking where the file's questions, 14, 15, 11 and 16 have passed and the sheet is that of the standing bookings already, so that it is
+// not laid down again; c is the file's catalogue.
 pub fn book_kept(
     file: &[u8],
     c: Catalogue,
@@ -190,7 +194,11 @@ pub fn book_kept(
     requires { ⌜ (c ≡ catalogueOf (now file)) × (refusal (standingAsks (now file) day rows places (length (now opens)) (length (now reserves)) (length (now helds))) ≡ 0) × SheetKept (settingAt (now file) day) (take (day .count) rows) (now opens) (now reserves) (now helds) ⌝ }
     ensures { λ r. ⌜ Leaves (settingAt (now (file .entry)) day) (bookCall (settingAt (now (file .entry)) day) (stateOf day rows places (now (opens .entry)) (now (reserves .entry)) (now (helds .entry))) q) (r .answer) (r .day) (r .rows) (now (opens .exit)) (now (reserves .exit)) (now (helds .exit)) ⌝ }
 {
-    let refused = own_number(file, c, day, rows, places, q);
+    let mut table = [0u64; TABLE_WORDS];
+    tabulate(c, rows, day.count as usize, &mut table);
+    let y = requested(c, q);
+    let mut profile = [0u64; MAX_LENGTH];
+    let refused = own_number(file, day, &table, places, q, y, &mut profile);
     if refused != 0 {
         return Outcome {
             answer: Answer::Refused(refused),
@@ -198,8 +206,18 @@ pub fn book_kept(
             rows,
         };
     }
-    let xs = streams_of(c, rows, day.count as usize);
-    place_on(file, c, day, rows, places, q, xs, opens, reserves, helds)
+    let n = y.prefetch + y.rounds;
+    place_on(
+        day,
+        rows,
+        q,
+        &table,
+        y,
+        &profile[..n],
+        opens,
+        reserves,
+        helds,
+    )
 }
 
 // Booking: the answer, the day, every record place and every place of the sheet afterwards are the model's, for every input.
@@ -219,15 +237,22 @@ pub fn book(
     ensures first { λ r. ⌜ (refusal (bookQuestions (settingAt (now (file .entry)) day) (stateOf day rows places (now (opens .entry)) (now (reserves .entry)) (now (helds .entry))) q) ≡ 0 → AnswersFirst (FitsAt (settingAt (now (file .entry)) day) (take (day .count) rows) q) (q .first) (q .last) (r .answer)) ⌝ }
 {
     let c = catalogue(file);
+    let mut table = [0u64; TABLE_WORDS];
+    let mut opened = [0u64; MAX_BOOKINGS];
+    let mut closed = [0u64; MAX_BOOKINGS];
+    let listed = smaller(day.count, MAX_BOOKINGS as u64);
+    tabulate(c, rows, listed as usize, &mut table);
     let examined = examine(
         file,
-        c,
+        c.verdict,
         day,
-        rows,
+        &table,
         places,
         opens.len(),
         reserves.len(),
         helds.len(),
+        &mut opened,
+        &mut closed,
         helds,
     );
     let number = examined.number;
@@ -239,5 +264,19 @@ pub fn book(
         };
     }
     let same = examined.same;
-    book_checked(file, c, day, rows, places, q, same, opens, reserves, helds)
+    book_checked(
+        file,
+        day,
+        rows,
+        places,
+        q,
+        &table,
+        requested(c, q),
+        &opened,
+        &closed,
+        same,
+        opens,
+        reserves,
+        helds,
+    )
 }

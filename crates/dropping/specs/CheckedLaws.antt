@@ -1,10 +1,16 @@
 -- A drop on a sheet that is laid first: it counts as a drop on the lent one. Assumes nothing.
-use mathlib.Core.Path.{_≡_, refl, sym, ap, _∙_}
+use mathlib.Core.Path.{_≡_, refl, sym, ap, _∙_, subst}
+use mathlib.Core.Bool.{Bool, true}
 use mathlib.Core.List.{List}
-use Prim.Native.Nat.{ℕ, _≤_}
+use Prim.Native.Nat.{ℕ, _≤_, min}
+use native.Mathlib.Decide.{decLe}
+use native.Mathlib.Omega.{arith}
 use lib.ListN.{length, take}
+use lib.Seq.{take-all, length-take-le}
 use Rattle.laws.specs.Questions.{refusal}
-use Rattle.films.specs.Catalogue.{catalogueOf}
+use Rattle.limits.specs.Bounds.{maxBookings}
+use Rattle.films.specs.Questions.{verdict}
+use Rattle.films.specs.Catalogue.{catalogueOf, catalogue-verdict}
 use Rattle.films.specs.declared.types.Catalogue.{Catalogue}
 use Rattle.model.specs.Day.{Setting}
 use Rattle.model.specs.Calls.{workedOut, dropCall}
@@ -13,26 +19,64 @@ use Rattle.model.specs.PlacesLaws.{workedOut-twice}
 use Rattle.model.specs.SoundLaws.{says-sound}
 use Rattle.model.specs.declared.Booking.{Booking}
 use Rattle.model.specs.declared.Day.{Day}
-use Rattle.load.specs.Streams.{streamsOf}
-use Rattle.load.specs.declared.stream.Stream.{Stream}
+use Rattle.load.specs.Basic.{EachOf}
+use Rattle.table.specs.Columns.{tableWords}
+use Rattle.table.specs.Streams.{streams}
+use Rattle.table.specs.Table.{Tabled}
 use Rattle.sheet.specs.Memory.{Agrees}
 use Rattle.sheet.specs.Sheet.{Lays, Laid}
 use Rattle.sheet.specs.LaidLaws.{length-worked}
 use Rattle.questions.specs.Given.{settingAt}
 use Rattle.questions.specs.Numbers.{standingAsks}
 use Rattle.questions.specs.Standing.{Standing, standing-held}
-use Rattle.questions.specs.ListSound.{all-tied-taken}
-use Rattle.questions.specs.SheetOf.{SheetOf, SheetKept, HeldKept, kept-agrees, sheet-kept}
+use Rattle.questions.specs.Events.{Gathered}
+use Rattle.questions.specs.Listed.{Workspace, Listed, tabled-listed}
+use Rattle.questions.specs.Tied.{AllTied}
+use Rattle.questions.specs.ListSound.{StreamsOf, tabled-streams, all-tied-taken, sound-playable}
+use Rattle.questions.specs.SheetOf.{SheetOf, SheetKept, kept-agrees, laid-sheet, sheet-kept}
 use Rattle.dropping.specs.Contract.{Drops}
 use Rattle.dropping.specs.Removal.{Position}
 use Rattle.dropping.specs.Standing.{Stands}
-use Rattle.dropping.specs.StandingLaws.{stands-lays, laid-worked}
 use Rattle.dropping.specs.Laws.{number-none}
 use Rattle.dropping.specs.declared.DropOutcome.{DropOutcome}
 
-module _ (f : List ℕ) (c : Catalogue) (day : Day) (rows : List Booking) (places : ℕ) (o₀ r₀ h₀ : List ℕ)
-    (passed : refusal (standingAsks f day rows places (length o₀) (length r₀) (length h₀)) ≡ 0) (is : c ≡ catalogueOf f) (room : day .count ≤ length rows)
-    (xs : List Stream) (made : xs ≡ streamsOf c (day .count) rows) where
+-- the first min n m of m elements are the first n
+pub take-smaller : {A : Type 0} (n m : ℕ) (l : List A) → length l ≡ m → take (min n m) l ≡ take n l
+take-smaller n m l e = go (decLe n m)
+  where
+    go : Dec (n ≤ m) → take (min n m) l ≡ take n l
+    go (yes h) = let z : min n m ≡ n = omega arith in ap (λ (k : ℕ). take k l) z
+    go (no h) = take-all (min n m) l (omega arith) ∙ sym (take-all n l (omega arith))
+
+-- ---- the table of the day's bookings, made of the first min n 256 rows
+
+module _ (f : List ℕ) (c : Catalogue) (day : Day) (rows : List Booking) (is : c ≡ catalogueOf f) (long : length rows ≡ maxBookings) (n : ℕ)
+    (few : n ≡ min (day .count) maxBookings) (table : List ℕ) (w : Tabled c (take n rows) table) where
+  pub day-tabled : Tabled (catalogueOf f) (take (day .count) rows) table
+  day-tabled =
+      subst (λ (bs : List Booking). Tabled (catalogueOf f) bs table)
+      (ap (λ (k : ℕ). take k rows) few ∙ take-smaller (day .count) maxBookings rows long)
+      (subst (λ (k : Catalogue). Tabled k (take n rows) table) is w)
+
+  -- what the questions are asked with
+  pub examine-asks : (opened closed : List ℕ) → Workspace table opened closed
+      → (c .verdict ≡ verdict f)
+      × Workspace table opened closed
+      × (c .verdict ≡ 0 → day .count ≤ maxBookings → EachOf (Listed f) (day .count) (streams table))
+  examine-asks opened closed space =
+      let v : c .verdict ≡ verdict f = ap (λ (k : Catalogue). k .verdict) is ∙ catalogue-verdict f in (
+        v,
+        space,
+        λ z most.
+            let size : length (take (day .count) rows) ≡ day .count = length-take-le (day .count) rows (omega arith) in
+            rw size at (tabled-listed f day (take (day .count) rows) table (sym v ∙ z) (omega arith) day-tabled),
+      )
+
+-- ---- the sheet of the standing bookings
+
+module _ (f : List ℕ) (day : Day) (rows : List Booking) (places : ℕ) (o₀ r₀ h₀ : List ℕ)
+    (passed : refusal (standingAsks f day rows places (length o₀) (length r₀) (length h₀)) ≡ 0) (room : day .count ≤ length rows)
+    (table opened closed : List ℕ) (same : Bool) (g : Stands f day (take (day .count) rows) table opened closed same h₀) where
   abbrev S : Setting
   S = settingAt f day
 
@@ -42,30 +86,38 @@ module _ (f : List ℕ) (c : Catalogue) (day : Day) (rows : List Booking) (place
   held : Standing f day rows places (length o₀) (length r₀) (length h₀)
   held = standing-held f day rows places (length o₀) (length r₀) (length h₀) passed
 
-  stood : Stands f c day bs (day .count) o₀ r₀ h₀
-  stood =
-      record {
-        catalogue = is;
-        accepted = held .accepted;
-        rounds = held .rounds;
-        few = held .few;
-        sound = says-sound S bs (held .sound);
-        places = record { opens-places = held .opens; reserves-places = held .reserves; helds-places = held .helds };
-      }
+  made : StreamsOf (catalogueOf f) (day .count) rows (streams table)
+  made = tabled-streams (catalogueOf f) (day .count) rows table (held .few) room (g .tabled)
+
+  tied : AllTied S f bs (take (day .count) (streams table))
+  tied = all-tied-taken f day rows (day .count) (streams table) (held .accepted) (held .few) room made
 
   -- what laying asks
-  pub checked-lays : Lays f xs (day .count) (day .rounds) o₀ r₀ h₀
-  checked-lays = stands-lays f c day rows (day .count) o₀ r₀ h₀ stood room xs made
-
-  pub checked-agrees : HeldKept S bs h₀ → Agrees f (take (day .count) xs) h₀ 0 (day .rounds)
-  checked-agrees =
-      kept-agrees S f bs (take (day .count) xs)
-      (all-tied-taken f day rows (day .count) xs (held .accepted) (held .few) room (made ∙ ap (λ (k : Catalogue). streamsOf k (day .count) rows) is)) h₀
+  pub checked-lays : (tableWords ≤ length table)
+      × Lays f (streams table) (day .count) (day .rounds) o₀ r₀ h₀
+      × Gathered (streams table) (day .count) opened closed
+      × (day .count ≤ length opened)
+      × (day .count ≤ length closed)
+      × (same ≡ true → Agrees f (take (day .count) (streams table)) h₀ 0 (day .rounds))
+  checked-lays =
+      let p = sound-playable f day rows (day .count) (streams table) (held .accepted) (held .few) room made (held .rounds) (says-sound S bs (held .sound)) in (
+        g .workspace .words,
+        record {
+          few = held .few;
+          streams = p .0;
+          within = p .1;
+          places = record { opens-places = held .opens; reserves-places = held .reserves; helds-places = held .helds };
+        },
+        g .events,
+        omega (arith, held .few, g .workspace .opens),
+        omega (arith, held .few, g .workspace .closes),
+        λ z. kept-agrees S f bs (take (day .count) (streams table)) tied h₀ (g .held z),
+      )
 
   -- and what stands then
-  module _ (o r h : List ℕ) (laid : Laid f (take (day .count) xs) (day .rounds) o₀ r₀ h₀ o r h) where
+  module _ (o r h : List ℕ) (laid : Laid f (take (day .count) (streams table)) (day .rounds) o₀ r₀ h₀ o r h) where
     sheet : SheetOf S bs o₀ r₀ h₀ o r h
-    sheet = laid-worked f c day rows (day .count) o₀ r₀ h₀ stood room xs made o r h laid
+    sheet = laid-sheet S f bs (take (day .count) (streams table)) tied o₀ r₀ h₀ o r h laid
 
     pub laid-kept : SheetKept S bs o r h
     laid-kept = sheet-kept S bs o₀ r₀ h₀ o r h sheet

@@ -2,7 +2,7 @@
 -- the rest. Assumes nothing.
 use mathlib.Core.Path.{_≡_, refl, sym, ap, _∙_, subst}
 use mathlib.Core.Bool.{cond}
-use mathlib.Core.List.{List, [], _∷_, _++_}
+use mathlib.Core.List.{List, [], _∷_}
 use Prim.Native.Nat.{ℕ, zero, suc, _+_, _-_, _≤_, _<_}
 use native.Mathlib.Decide.{decLe}
 use native.Mathlib.Nat.{not-suc-le-zero, le-of-suc-le-suc}
@@ -20,10 +20,10 @@ use Rattle.model.specs.CodeLaws.{perRound-at}
 use Rattle.model.specs.SoundLaws.{says-sound}
 use Rattle.model.specs.declared.Booking.{Booking}
 use Rattle.model.specs.declared.Day.{Day}
-use Rattle.load.specs.Stream.{noStream, endOf, openIn, holdsIn}
+use Rattle.load.specs.Stream.{noStream, openIn, holdsIn}
 use Rattle.load.specs.StreamLaws.{open-late}
 use Rattle.load.specs.Streams.{streamOf, streamsOf}
-use Rattle.load.specs.Lists.{take-filled, map-at}
+use Rattle.load.specs.Lists.{take-filled, length-filled, map-at}
 use Rattle.load.specs.Basic.{Playable, Within}
 use Rattle.load.specs.declared.stream.Stream.{Stream}
 use Rattle.sheet.specs.LaidLaws.{worked-at, length-worked}
@@ -32,9 +32,9 @@ use Rattle.questions.specs.Numbers.{standingAsks}
 use Rattle.questions.specs.Standing.{Standing, standing-held}
 use Rattle.questions.specs.Tied.{Tied, opened-tied, reserved-tied, held-tied}
 use Rattle.questions.specs.Ties.{stream-tied}
-use Rattle.questions.specs.ListSound.{sound-playable}
+use Rattle.questions.specs.ListSound.{StreamsOf, sound-playable}
 use Rattle.questions.specs.SheetOf.{SheetOf, SheetKept}
-use Rattle.dropping.specs.Removal.{others, closed, Position}
+use Rattle.dropping.specs.Removal.{others, closed}
 use Rattle.dropping.specs.RemovalLaws.{take-closed}
 use Rattle.dropping.specs.Taking.{AtLeast, lowered, Takes, Taken}
 
@@ -111,18 +111,25 @@ module _ (f : List ℕ) (day : Day) (rows : List Booking) (places : ℕ) (opens 
   tied : Tied S f b x
   tied = subst (λ (y : Stream). Tied S f b y) (sym from-file) (stream-tied S f refl (stands .accepted) b)
 
+  streams-made : StreamsOf (catalogueOf f) (day .count) rows (streamsOf (catalogueOf f) (day .count) rows)
+  streams-made =
+      record {
+        taken = take-filled (streamOf (catalogueOf f)) rows maxBookings noStream (day .count) room;
+        long = length-filled (streamOf (catalogueOf f)) rows maxBookings noStream (day .count) room (stands .few);
+      }
+
   stream-at : getD (streamsOf (catalogueOf f) (day .count) rows) i noStream ≡ x
   stream-at =
       let xs = streamsOf (catalogueOf f) (day .count) rows in
       sym (getD-take (day .count) xs i noStream inside)
-      ∙ ap (λ (q : List Stream). getD q i noStream) (take-filled (streamOf (catalogueOf f)) rows maxBookings noStream (day .count) room)
+      ∙ ap (λ (q : List Stream). getD q i noStream) (streams-made .taken)
       ∙ map-at (streamOf (catalogueOf f)) bs i noBooking noStream (omega (arith, length-take-le (day .count) rows room))
       ∙ ap (streamOf (catalogueOf f)) (getD-take (day .count) rows i noBooking inside)
       ∙ sym from-file
 
   playable : Playable f x × Within (day .rounds) x
   playable =
-      let good = sound-playable f day rows (day .count) (streamsOf (catalogueOf f) (day .count) rows) (stands .accepted) (stands .few) room refl (stands .rounds)
+      let good = sound-playable f day rows (day .count) (streamsOf (catalogueOf f) (day .count) rows) (stands .accepted) (stands .few) room streams-made (stands .rounds)
       (says-sound S bs (stands .sound)) in (
         subst (λ (y : Stream). Playable f y) stream-at (good .0 i inside),
         subst (λ (y : Stream). Within (day .rounds) y) stream-at (good .1 i inside),

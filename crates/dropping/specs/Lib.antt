@@ -3,7 +3,6 @@ pub mod Contract
 pub mod Removal
 pub mod RemovalLaws
 pub mod Standing
-pub mod StandingLaws
 pub mod Laws
 pub mod Taking
 pub mod TakingLaws

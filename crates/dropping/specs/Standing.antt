@@ -1,23 +1,22 @@
--- What the sheet of the bookings that stand is worked out from.
+-- What the questions before a drop's own leave of the bookings that stand.
 use mathlib.Core.Path.{_≡_}
-use mathlib.Core.Bool.{true}
+use mathlib.Core.Bool.{Bool, true}
 use mathlib.Core.List.{List}
-use Prim.Native.Nat.{ℕ, _≤_}
-use Rattle.limits.specs.Bounds.{maxBookings, maxDay}
-use Rattle.films.specs.Questions.{verdict}
+use Prim.Native.Nat.{ℕ}
 use Rattle.films.specs.Catalogue.{catalogueOf}
-use Rattle.films.specs.declared.types.Catalogue.{Catalogue}
-use Rattle.model.specs.Soundness.{soundList}
 use Rattle.model.specs.declared.Booking.{Booking}
 use Rattle.model.specs.declared.Day.{Day}
-use Rattle.sheet.specs.Sheet.{Places}
+use Rattle.table.specs.Streams.{streams}
+use Rattle.table.specs.Table.{Tabled}
 use Rattle.questions.specs.Given.{settingAt}
+use Rattle.questions.specs.Events.{Gathered}
+use Rattle.questions.specs.Listed.{Workspace}
+use Rattle.questions.specs.SheetOf.{HeldKept}
 
--- bs is a sound list of n bookings on an accepted file, and the sheet has T places
-pub record Stands (f : List ℕ) (c : Catalogue) (day : Day) (bs : List Booking) (n : ℕ) (opens reserves helds : List ℕ) : Type 0 where
-  pub catalogue : c ≡ catalogueOf f
-  pub accepted : verdict f ≡ 0
-  pub rounds : day .rounds ≤ maxDay
-  pub few : n ≤ maxBookings
-  pub sound : soundList (settingAt f day) bs ≡ true
-  pub places : Places (day .rounds) opens reserves helds
+-- the day's bookings bs are those of the table, the rounds in which they open and end are gathered, and if `same` a list has what they hold
+-- by round
+pub record Stands (f : List ℕ) (day : Day) (bs : List Booking) (table opened closed : List ℕ) (same : Bool) (helds : List ℕ) : Type 0 where
+  pub tabled : Tabled (catalogueOf f) bs table
+  pub workspace : Workspace table opened closed
+  pub events : Gathered (streams table) (day .count) opened closed
+  pub held : same ≡ true → HeldKept (settingAt f day) bs helds

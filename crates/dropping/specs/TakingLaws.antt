@@ -11,21 +11,19 @@ use lib.ListN.{length, getD, set, take, drop, replicate, length-append, length-t
 use lib.Seq.{ext-getD, getD-drop, getD-take, take-all}
 use borrow.Author.Tests.{leb-true, leb-false, le-leb, lt-leb}
 use borrow.Rule.Slice.PartMut.{midOf, putMid}
-use Rattle.laws.specs.Parts.{tail-part, tail-length, tail-back}
-use Rattle.limits.specs.Bounds.{maxPrefetch, maxRounds}
-use Rattle.retrieval.specs.Stored.{length-sendsAt, length-profile}
-use Rattle.retrieval.specs.Sheet.{onto, plus, Adds}
-use Rattle.retrieval.specs.Sheet as retrieval-sheet
-use Rattle.retrieval.specs.SheetLaws.{length-onto, onto-nil, adds-whole, heldIn-whole, heldIn-small, room-largest, largest-zeros}
-use Rattle.model.specs.PlacesLaws.{length-perRound, perRound-same}
+use Rattle.laws.specs.Parts.{tail-part, tail-back}
+use Rattle.retrieval.specs.Stored.{InRange}
+use Rattle.retrieval.specs.SheetLaws.{length-onto, onto-nil}
+use Rattle.retrieval.specs.Written.{written-places, written-length}
+use Rattle.model.specs.PlacesLaws.{length-perRound}
 use Rattle.model.specs.CodeLaws.{perRound-at}
-use Rattle.load.specs.Stream.{lengthOf, endOf, openIn, holdsIn, profileOf}
+use Rattle.load.specs.Stream.{lengthOf, openIn, holdsIn, profileOf}
 use Rattle.load.specs.StreamLaws.{open-within}
 use Rattle.load.specs.Basic.{Playable}
 use Rattle.load.specs.declared.stream.Stream.{Stream}
 use Rattle.sheet.specs.Parts.{share, share-before}
-use Rattle.sheet.specs.SheetLaws.{flat-share, held-share, tail-fits}
-use Rattle.sheet.specs.WindowLaws.{length-profileOf, holds-within}
+use Rattle.sheet.specs.SheetLaws.{flat-share, held-share}
+use Rattle.sheet.specs.WindowLaws.{holds-within}
 use Rattle.dropping.specs.Taking.{less, AtLeast, lowered}
 
 -- ---- shares taken from the first places, one by one
@@ -128,40 +126,23 @@ module _ (x : Stream) (l : List ℕ) where
       → putMid (x .start) (length l - x .start) l p ≡ lowered (λ t. cond (openIn t x) v 0) l
   flat-back v p e = lowered-back (x .start) (replicate (lengthOf x) v) l p (λ t. cond (openIn t x) v 0) (flat-share x v) e
 
--- hs added to zeros stands in the first places
-zeros-plus : (m : ℕ) (hs : List ℕ) → length hs ≤ m → take (length hs) (plus (replicate m 0) hs) ≡ hs
-zeros-plus m [] h = refl
-zeros-plus zero (x ∷ hs) h = absurd (not-suc-le-zero h)
-zeros-plus (suc m) (x ∷ hs) h =
-    let e : 0 + x ≡ x = omega arith in
-    ap₂ (λ (a : ℕ) (q : List ℕ). a ∷ q) e (zeros-plus m hs (le-of-suc-le-suc h))
-
--- the stream's profile, worked out into an array of m zeros
+-- the stream's profile, written to an array of m words
 module _ (f : List ℕ) (x : Stream) (m : ℕ) (good : Playable f x) (room : lengthOf x ≤ m) where
-  pub profile-asks : Adds (replicate m 0) f (x .at) (x .rounds) (x .prefetch) (x .reserve) 0 (lengthOf x) 0
-  profile-asks =
-      let held : List ℕ = retrieval-sheet.heldIn f (x .at) (x .rounds) (x .prefetch) (x .reserve) 0 (lengthOf x) in
-      adds-whole (replicate m 0) f (x .at) (x .rounds) (x .prefetch) (x .reserve)
-      (record { stored = good .stored; prefetch = good .bounded .prefetch; reserve = good .bounded .reserve })
-      (omega (arith, length-replicate m zero))
-      (room-largest (replicate m 0) held
-      (omega (arith, largest-zeros m, heldIn-small f (x .at) (x .rounds) (x .prefetch) (x .reserve) 0 (lengthOf x) (good .stored))))
+  pub profile-asks : InRange f (x .at) (x .rounds) (x .prefetch) (x .reserve) × (lengthOf x ≤ length {A = ℕ} (replicate m 0))
+  profile-asks = (
+    record { stored = good .stored; prefetch = good .bounded .prefetch; reserve = good .bounded .reserve },
+    omega (arith, length-replicate m zero),
+  )
 
-  module _ (profile : List ℕ)
-      (made : profile ≡ plus (replicate m 0) (retrieval-sheet.heldIn f (x .at) (x .rounds) (x .prefetch) (x .reserve) 0 (lengthOf x))) where
+  module _ (profile : List ℕ) (made : profile ≡ profileOf f x ++ drop (lengthOf x) (replicate m 0)) where
     profile-taken : take (lengthOf x) profile ≡ profileOf f x
-    profile-taken =
-        let l = length-profileOf f x in
-        ap (take (lengthOf x)) (made ∙ ap (plus (replicate m 0)) (heldIn-whole f (x .at) (x .rounds) (x .prefetch) (x .reserve)))
-        ∙ ap (λ (k : ℕ). take k (plus (replicate m 0) (profileOf f x))) (sym l)
-        ∙ zeros-plus m (profileOf f x) (omega arith)
+    profile-taken = written-places f (x .at) (x .rounds) (x .prefetch) (x .reserve) (replicate m 0) profile made
 
     pub profile-long : lengthOf x ≤ length profile
     profile-long =
         omega (
           arith,
-          ap length made,
-          length-onto (λ a b. a + b) (replicate m 0) (retrieval-sheet.heldIn f (x .at) (x .rounds) (x .prefetch) (x .reserve) 0 (lengthOf x)),
+          written-length f (x .at) (x .rounds) (x .prefetch) (x .reserve) (replicate m 0) profile made (profile-asks .1),
           length-replicate m zero,
         )
 

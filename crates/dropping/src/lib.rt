@@ -1,33 +1,33 @@
 // Dropping a booking.
 pub mod removal;
-pub mod standing;
 mod taking;
 
 use crate::removal::close_gap;
 use crate::removal::position;
-use crate::standing::lay_standing;
 use crate::taking::take_stream;
 use films::catalogue::catalogue;
 use films::types::Catalogue;
 use limits::bounds::MAX_BOOKINGS;
 use limits::refusals::NO_NAME;
 use load::stream::stream_of;
-use load::stream::streams_of;
 use model::Answer;
 use model::Booking;
 use model::Day;
 use questions::laying::lay_checked;
 use questions::standing::examine;
+use table::streams::TABLE_WORDS;
+use table::tabulate::tabulate;
 ghost use mathlib.Core.Path.{_≡_};
-ghost use mathlib.Core.Bool.{true};
+ghost use Prim.Native.Nat.{min};
 ghost use lib.ListN.{length, take};
 ghost use Rattle.laws.specs.Questions.{refusal};
 ghost use Rattle.films.specs.Catalogue.{catalogueOf};
 ghost use Rattle.model.specs.Code.{stateOf};
 ghost use Rattle.questions.specs.Given.{settingAt};
 ghost use Rattle.questions.specs.Numbers.{standingAsks};
-ghost use Rattle.questions.specs.SheetOf.{SheetKept, HeldKept};
+ghost use Rattle.questions.specs.SheetOf.{SheetKept};
 ghost use Rattle.dropping.specs.Contract.{Drops};
+ghost use Rattle.dropping.specs.Standing.{Stands};
 
 // What a drop answers, and the day and the records after it.
 pub struct DropOutcome {
@@ -36,46 +36,8 @@ pub struct DropOutcome {
     pub rows: [Booking; MAX_BOOKINGS],
 }
 
-// The drop where the file's questions, 14, 15, 11 and 16 have passed; c is the file's catalogue.
-pub fn drop_standing(
-    file: &[u8],
-    c: Catalogue,
-    day: Day,
-    rows: [Booking; MAX_BOOKINGS],
-    places: u64,
-    name: u32,
-    opens: &mut [u64],
-    reserves: &mut [u64],
-    helds: &mut [u64],
-) -> DropOutcome
-    requires { ⌜ (c ≡ catalogueOf (now file)) × (refusal (standingAsks (now file) day rows places (length (now opens)) (length (now reserves)) (length (now helds))) ≡ 0) ⌝ }
-    ensures { λ r. ⌜ Drops (settingAt (now (file .entry)) day) (stateOf day rows places (now (opens .entry)) (now (reserves .entry)) (now (helds .entry))) name r (now (opens .exit)) (now (reserves .exit)) (now (helds .exit)) ⌝ }
-{
-    let count = day.count as usize;
-    let i = position(rows, count, name);
-    if i == count {
-        return DropOutcome {
-            answer: Answer::Refused(NO_NAME),
-            day,
-            rows,
-        };
-    }
-    let rest = close_gap(rows, count, i);
-    lay_standing(file, c, day, rest, count - 1, opens, reserves, helds);
-    DropOutcome {
-        answer: Answer::Dropped,
-        day: Day {
-            rounds: day.rounds,
-            disk: day.disk,
-            memory: day.memory,
-            now: day.now,
-            count: day.count - 1,
-        },
-        rows: rest,
-    }
-}
-
-// `drop_standing` where the sheet is that of the standing bookings already, so that only the dropped one's stream is taken out.
+// The drop where the file's questions, 14, 15, 11 and 16 have passed and the sheet is that of the standing bookings already, so that only
+// the dropped one's stream is taken out; c is the file's catalogue.
 pub fn drop_kept(
     file: &[u8],
     c: Catalogue,
@@ -117,8 +79,15 @@ pub fn drop_kept(
     }
 }
 
-// `drop_standing` where, if `same`, the lent sums of bytes held are those of the standing bookings: the rest of their sheet is
-// laid down, and the dropped one's stream taken out.
+// The smaller of two.
+fn smaller(a: usize, b: usize) -> usize
+    ensures { λ r. ⌜ r ≡ min a b ⌝ }
+{
+    if a < b { a } else { b }
+}
+
+// The drop where the file's questions, 14, 15, 11 and 16 have passed, and the table, `opened`, `closed` and `same` are what they were
+// asked with and left: the sheet of the standing bookings is laid down, and the dropped one's stream taken out.
 fn drop_checked(
     file: &[u8],
     c: Catalogue,
@@ -126,17 +95,17 @@ fn drop_checked(
     rows: [Booking; MAX_BOOKINGS],
     places: u64,
     name: u32,
+    table: &[u64],
+    opened: &[u64],
+    closed: &[u64],
     same: bool,
     opens: &mut [u64],
     reserves: &mut [u64],
     helds: &mut [u64],
 ) -> DropOutcome
-    requires { ⌜ (c ≡ catalogueOf (now file)) × (refusal (standingAsks (now file) day rows places (length (now opens)) (length (now reserves)) (length (now helds))) ≡ 0) × (same ≡ true → HeldKept (settingAt (now file) day) (take (day .count) rows) (now helds)) ⌝ }
+    requires { ⌜ (c ≡ catalogueOf (now file)) × (refusal (standingAsks (now file) day rows places (length (now opens)) (length (now reserves)) (length (now helds))) ≡ 0) × Stands (now file) day (take (day .count) rows) (now table) (now opened) (now closed) same (now helds) ⌝ }
     ensures { λ r. ⌜ Drops (settingAt (now (file .entry)) day) (stateOf day rows places (now (opens .entry)) (now (reserves .entry)) (now (helds .entry))) name r (now (opens .exit)) (now (reserves .exit)) (now (helds .exit)) ⌝ }
 {
-    if !same {
-        return drop_standing(file, c, day, rows, places, name, opens, reserves, helds);
-    }
     let count = day.count as usize;
     let i = position(rows, count, name);
     if i == count {
@@ -146,11 +115,12 @@ fn drop_checked(
             rows,
         };
     }
-    let xs = streams_of(c, rows, count);
     lay_checked(
         file,
-        xs,
+        table,
         count,
+        opened,
+        closed,
         day.rounds as usize,
         same,
         opens,
@@ -175,15 +145,26 @@ pub fn drop_booking(
     ensures { λ r. ⌜ Drops (settingAt (now (file .entry)) day) (stateOf day rows places (now (opens .entry)) (now (reserves .entry)) (now (helds .entry))) name r (now (opens .exit)) (now (reserves .exit)) (now (helds .exit)) ⌝ }
 {
     let c = catalogue(file);
+    let mut table = [0u64; TABLE_WORDS];
+    let mut opened = [0u64; MAX_BOOKINGS];
+    let mut closed = [0u64; MAX_BOOKINGS];
+    tabulate(
+        c,
+        rows,
+        smaller(day.count as usize, MAX_BOOKINGS),
+        &mut table,
+    );
     let examined = examine(
         file,
-        c,
+        c.verdict,
         day,
-        rows,
+        &table,
         places,
         opens.len(),
         reserves.len(),
         helds.len(),
+        &mut opened,
+        &mut closed,
         helds,
     );
     let number = examined.number;
@@ -202,6 +183,9 @@ pub fn drop_booking(
         rows,
         places,
         name,
+        &table,
+        &opened,
+        &closed,
         same,
         opens,
         reserves,

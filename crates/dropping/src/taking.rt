@@ -54,17 +54,7 @@ pub fn take_held(file: &[u8], x: Stream, helds: &mut [u64])
     let start = x.start;
     let n = x.prefetch + x.rounds;
     let mut profile = [0u64; MAX_LENGTH];
-    retrieval::add_held(
-        &mut profile,
-        file,
-        x.at,
-        x.rounds,
-        x.prefetch,
-        x.reserve,
-        0,
-        n,
-        0,
-    );
+    retrieval::write_profile(&mut profile, file, x.at, x.rounds, x.prefetch, x.reserve);
     take_shares(&mut helds[start..], n, &profile);
 }
 

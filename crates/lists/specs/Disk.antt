@@ -1,20 +1,10 @@
 -- The disk, of rows of a start, an end and a reserve. Document 01: "In each round reserves + loss(films open) ≤ D".
-use mathlib.Core.Path.{_≡_}
 use mathlib.Core.Bool.{Bool, cond, _&&_}
 use mathlib.Core.List.{List, [], _∷_}
-use Prim.Native.Nat.{ℕ, _+_, _≤_, _<_}
+use Prim.Native.Nat.{ℕ, _+_}
 use lib.Dec.{leb, ltb}
-use lib.ListN.{length, getD}
-use Rattle.limits.specs.Bounds.{maxBookings, maxReserve}
 use Rattle.loss.specs.Loss.{lossAt}
 use Rattle.lists.specs.Rows.{Row}
-
--- columns of a day's bookings: as long as each other, and no sum of reserves wraps
-pub record DiskColumns (starts ends reserves : List ℕ) : Type 0 where
-  pub few : length starts ≤ maxBookings
-  pub end-each : length ends ≡ length starts
-  pub reserve-each : length reserves ≡ length starts
-  pub bounded : (i : ℕ) → i < length reserves → getD reserves i 0 ≤ maxReserve
 
 -- from round s to the one before e
 unfoldable pub openFrom : ℕ → ℕ → ℕ → Bool

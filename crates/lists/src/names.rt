@@ -11,14 +11,14 @@ ghost use Rattle.lists.specs.Names.{timesIn, allDiffer};
 const MARKS: usize = 4096;
 
 // 1 where the names are the same, else 0.
-fn same(a: u32, b: u32) -> u32
+fn same(a: u64, b: u64) -> u32
     ensures { λ r. ⌜ r ≡ cond (eqb a b) 1 0 ⌝ }
 {
     if a == b { 1 } else { 0 }
 }
 
 // How often the name stands in the list. There is no early exit, so that the compiler makes code for several names at once.
-fn times_in(names: &[u32], name: u32) -> u32
+fn times_in(names: &[u64], name: u64) -> u32
     requires { ⌜ length (now names) ≤ maxBookings ⌝ }
     ensures { λ r. ⌜ r ≡ timesIn name (now (names .entry)) ⌝ }
 {
@@ -33,7 +33,7 @@ fn times_in(names: &[u32], name: u32) -> u32
 
 // Whether no name stands in the list twice. Each name marks one of some places; a name whose place is not yet marked differs from
 // all before it, and only one whose place is marked is compared with them.
-pub fn all_differ(names: &[u32]) -> bool
+pub fn all_differ(names: &[u64]) -> bool
     requires { ⌜ length (now names) ≤ maxBookings ⌝ }
     ensures { λ r. ⌜ r ≡ allDiffer (now (names .entry)) ⌝ }
 {

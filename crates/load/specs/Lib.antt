@@ -4,6 +4,5 @@ pub mod Streams
 pub mod Basic
 pub mod Disk
 pub mod Lists
-pub mod Columns
 pub mod StreamLaws
 pub mod BasicLaws

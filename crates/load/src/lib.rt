@@ -1,7 +1,3 @@
-// The load of a day's rounds, and whether a list of bookings is sound.
-pub mod cabs;
-mod columns;
-pub mod disk;
-pub mod names;
+// Bookings with their films' places in the file, and what question 16 asks of each by itself.
 pub mod records;
 pub mod stream;

@@ -4,6 +4,7 @@ pub mod Contract
 pub mod Ready
 pub mod LineLaws
 pub mod CabLaws
-pub mod OpenLaws
 pub mod ReportLaws
 pub mod Laws
+pub mod Round
+pub mod RoundLaws

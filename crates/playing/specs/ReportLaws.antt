@@ -15,8 +15,7 @@ use Rattle.model.specs.declared.Booking.{Booking}
 use Rattle.model.specs.declared.Line.{Line}
 use Rattle.playing.specs.Lines.{padded}
 use Rattle.playing.specs.LineLaws.{report-open, report-shut}
-use Rattle.playing.specs.CabLaws.{joined-next}
-use Rattle.playing.specs.OpenLaws.{cabs-shut}
+use Rattle.playing.specs.CabLaws.{joined-next, cabs-shut}
 
 module _ (S : Setting) (t : ℕ) (rows : List Booking) (n : ℕ) where
   -- the array has the lines of the first i of n bookings, k of them, and joined to the cabs taken those of the bookings from i on

@@ -9,4 +9,6 @@ pub mod Sound
 pub mod ListSound
 pub mod SheetOf
 pub mod Start
+pub mod Events
+pub mod Listed
 pub mod Laying

@@ -70,7 +70,7 @@ module _ (S : Setting) (f : List ℕ) (loss : S .loss ≡ lossAt) (bs : List Boo
 -- ---- what the streams of bookings that pass are good for
 
 -- within the bounds, and within the day
-basic-bounded : (T : ℕ) (x : Stream) → T ≤ maxDay → basicOf T x ≡ true → Bounded x × Within T x
+pub basic-bounded : (T : ℕ) (x : Stream) → T ≤ maxDay → basicOf T x ≡ true → Bounded x × Within T x
 unfolding basicOf endsBy
 basic-bounded T x h e =
     let one = leb 1 (x .rounds) in

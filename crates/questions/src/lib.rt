@@ -1,5 +1,6 @@
 // What every call of a day asks before its own questions: of the day, its sheet and the list of bookings.
 pub mod asked;
+pub mod events;
 pub mod laying;
 mod soundness;
 pub mod standing;

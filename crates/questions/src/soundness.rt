@@ -1,93 +1,93 @@
-// Question 16, by the streams of the bookings.
-use films::types::Catalogue;
+// Question 16, by the table of the bookings.
+use crate::events::gather;
 use limits::bounds::MAX_BOOKINGS;
-use load::cabs::pairs_clear;
-use load::disk::disk_at_starts;
-use load::names::names_differ;
-use load::records::all_basic;
-use load::stream::Stream;
-use load::stream::streams_of;
-use model::Booking;
 use model::Day;
+use segments::disk::disk_kept;
 use sheet::memory::Checked;
 use sheet::memory::held_within;
+use table::sound::all_basic;
+use table::sound::names_differ;
+use table::sound::pairs_clear;
 ghost use mathlib.Core.Path.{_≡_};
-ghost use mathlib.Core.Bool.{true};
+ghost use mathlib.Core.Bool.{true, false};
 ghost use Prim.Native.Nat.{_≤_};
-ghost use lib.ListN.{take};
+ghost use lib.ListN.{length, take};
 ghost use Rattle.limits.specs.Bounds.{maxBookings, maxDay};
 ghost use Rattle.films.specs.Questions.{verdict};
-ghost use Rattle.films.specs.Catalogue.{catalogueOf};
 ghost use Rattle.load.specs.Basic.{Playable, Within, EachOf};
-ghost use Rattle.model.specs.Soundness.{soundList};
+ghost use Rattle.table.specs.Columns.{tableWords};
+ghost use Rattle.table.specs.Streams.{streams};
 ghost use Rattle.sheet.specs.Memory.{Agrees};
+ghost use Rattle.questions.specs.Events.{Gathered};
 ghost use Rattle.questions.specs.Sound.{streamsSound};
-ghost use Rattle.questions.specs.Given.{settingAt};
-ghost use Rattle.questions.specs.Numbers.{soundHolds};
-ghost use Rattle.questions.specs.SheetOf.{HeldKept};
+ghost use Rattle.questions.specs.Listed.{Listed, Workspace, TellsSound, TellsHolds};
+
+// An answer that is no.
+fn unsound() -> Checked
+    ensures { λ r. ⌜ (r .kept ≡ false) × (r .same ≡ false) ⌝ }
+{
+    Checked {
+        kept: false,
+        same: false,
+    }
+}
 
 // Whether no cab shows two films, every round keeps both limits, and each stream has a schedule; and whether `helds` has what
 // they hold by round.
 fn streams_sound(
     file: &[u8],
-    xs: [Stream; MAX_BOOKINGS],
+    table: &[u64],
     count: usize,
     rounds: usize,
     disk: u64,
     memory: u64,
+    opened: &[u64],
+    closed: &[u64],
     helds: &[u64],
 ) -> Checked
-    requires { ⌜ (count ≤ maxBookings) × EachOf (Playable (now file)) count xs × EachOf (Within rounds) count xs ⌝ }
-    ensures { λ r. ⌜ ((r .kept ≡ streamsSound (now (file .entry)) rounds disk memory (take count xs)) × (r .same ≡ true → Agrees (now (file .entry)) (take count xs) (now (helds .entry)) 0 rounds)) ⌝ }
+    requires { ⌜ (tableWords ≤ length (now table)) × (count ≤ maxBookings) × EachOf (Playable (now file)) count (streams (now table)) × EachOf (Within rounds) count (streams (now table)) × Gathered (streams (now table)) count (now opened) (now closed) × (count ≤ length (now opened)) × (count ≤ length (now closed)) ⌝ }
+    ensures { λ r. ⌜ ((r .kept ≡ streamsSound (now (file .entry)) rounds disk memory (take count (streams (now (table .entry))))) × (r .same ≡ true → Agrees (now (file .entry)) (take count (streams (now (table .entry)))) (now (helds .entry)) 0 rounds)) ⌝ }
 {
-    if !pairs_clear(xs, count) {
-        return Checked {
-            kept: false,
-            same: false,
-        };
+    if !pairs_clear(table, count) {
+        return unsound();
     }
-    if !disk_at_starts(xs, count, disk) {
-        return Checked {
-            kept: false,
-            same: false,
-        };
+    if !disk_kept(&opened[..count], &closed[..count], disk) {
+        return unsound();
     }
-    held_within(file, xs, count, rounds, memory, helds)
+    held_within(file, table, count, rounds, memory, helds)
 }
 
-// Is the list of the first `count` bookings sound? And has `helds` what they hold by round? The file is accepted, and c is its
-// catalogue.
-pub fn sound_list(
+// Is the list of the first `count` bookings sound, by their table? And has `helds` what they hold by round? The file is accepted. Of a
+// sound list `opened` and `closed` have the rounds in which bookings open and end.
+fn sound_list(
     file: &[u8],
-    c: Catalogue,
     day: Day,
-    rows: [Booking; MAX_BOOKINGS],
+    table: &[u64],
     count: usize,
+    opened: &mut [u64],
+    closed: &mut [u64],
     helds: &[u64],
 ) -> Checked
-    requires { ⌜ (c ≡ catalogueOf (now file)) × (verdict (now file) ≡ 0) × (count ≤ maxBookings) × (day .rounds ≤ maxDay) ⌝ }
-    ensures { λ r. ⌜ ((r .kept ≡ soundList (settingAt (now (file .entry)) day) (take count rows)) × (r .same ≡ true → HeldKept (settingAt (now (file .entry)) day) (take count rows) (now (helds .entry)))) ⌝ }
+    requires { ⌜ (verdict (now file) ≡ 0) × (count ≤ maxBookings) × (day .rounds ≤ maxDay) × Workspace (now table) (now opened) (now closed) × EachOf (Listed (now file)) count (streams (now table)) ⌝ }
+    ensures { λ r. ⌜ TellsSound (now (file .entry)) day (now (table .entry)) count (now (helds .entry)) r (now (opened .exit)) (now (closed .exit)) ⌝ }
+    ensures { λ _. ⌜ Workspace (now (table .entry)) (now (opened .exit)) (now (closed .exit)) ⌝ }
 {
-    if !names_differ(rows, count) {
-        return Checked {
-            kept: false,
-            same: false,
-        };
+    if !names_differ(table, count) {
+        return unsound();
     }
-    let xs = streams_of(c, rows, count);
-    if !all_basic(xs, count, day.rounds) {
-        return Checked {
-            kept: false,
-            same: false,
-        };
+    if !all_basic(table, count, day.rounds) {
+        return unsound();
     }
+    gather(table, count, opened, closed);
     streams_sound(
         file,
-        xs,
+        table,
         count,
         day.rounds as usize,
         day.disk,
         day.memory,
+        opened,
+        closed,
         helds,
     )
 }
@@ -95,27 +95,23 @@ pub fn sound_list(
 // Is the list sound? At most 256 records, within the list's places, and sound. And has `helds` what they hold by round?
 pub fn sound_holds(
     file: &[u8],
-    c: Catalogue,
     day: Day,
-    rows: [Booking; MAX_BOOKINGS],
+    table: &[u64],
     places: u64,
+    opened: &mut [u64],
+    closed: &mut [u64],
     helds: &[u64],
 ) -> Checked
-    requires { ⌜ (c ≡ catalogueOf (now file)) × (verdict (now file) ≡ 0) × (day .rounds ≤ maxDay) ⌝ }
-    ensures { λ r. ⌜ ((r .kept ≡ soundHolds (now (file .entry)) day rows places) × (r .same ≡ true → HeldKept (settingAt (now (file .entry)) day) (take (day .count) rows) (now (helds .entry)))) ⌝ }
+    requires { ⌜ (verdict (now file) ≡ 0) × (day .rounds ≤ maxDay) × Workspace (now table) (now opened) (now closed) × (day .count ≤ maxBookings → EachOf (Listed (now file)) (day .count) (streams (now table))) ⌝ }
+    ensures { λ r. ⌜ TellsHolds (now (file .entry)) day (now (table .entry)) places (now (helds .entry)) r (now (opened .exit)) (now (closed .exit)) ⌝ }
+    ensures { λ _. ⌜ Workspace (now (table .entry)) (now (opened .exit)) (now (closed .exit)) ⌝ }
 {
     let count = day.count;
     if (MAX_BOOKINGS as u64) < count {
-        return Checked {
-            kept: false,
-            same: false,
-        };
+        return unsound();
     }
     if places < count {
-        return Checked {
-            kept: false,
-            same: false,
-        };
+        return unsound();
     }
-    sound_list(file, c, day, rows, count as usize, helds)
+    sound_list(file, day, table, count as usize, opened, closed, helds)
 }

@@ -3,22 +3,18 @@ use crate::asked::day_holds;
 use crate::asked::limits_hold;
 use crate::asked::sheet_holds;
 use crate::soundness::sound_holds;
-use films::types::Catalogue;
-use limits::bounds::MAX_BOOKINGS;
 use limits::refusals::DAY_LIMITS;
 use limits::refusals::DAY_ROUNDS;
 use limits::refusals::NO_ROOM;
 use limits::refusals::UNSOUND;
-use model::Booking;
 use model::Day;
 ghost use mathlib.Core.Path.{_≡_};
-ghost use mathlib.Core.Bool.{true};
-ghost use lib.ListN.{take};
-ghost use Rattle.laws.specs.Questions.{refusal};
-ghost use Rattle.films.specs.Catalogue.{catalogueOf};
-ghost use Rattle.questions.specs.Given.{settingAt};
-ghost use Rattle.questions.specs.Numbers.{standingAsks};
-ghost use Rattle.questions.specs.SheetOf.{HeldKept};
+ghost use Prim.Native.Nat.{_≤_};
+ghost use Rattle.limits.specs.Bounds.{maxBookings};
+ghost use Rattle.films.specs.Questions.{verdict};
+ghost use Rattle.load.specs.Basic.{EachOf};
+ghost use Rattle.table.specs.Streams.{streams};
+ghost use Rattle.questions.specs.Listed.{Workspace, Listed, Examines};
 
 // The number of the first that says no, 0 if none does; and whether a list has what the standing bookings hold by round.
 pub struct Examined {
@@ -26,23 +22,26 @@ pub struct Examined {
     pub same: bool,
 }
 
-// The number of the first that says no, where the sheet's lists are opens, reserves and held_places places long; and if none
-// does, whether the first T places of `helds` are what the standing bookings hold.
+// The number of the first that says no, where the sheet's lists are opens, reserves and held_places places long and the table is that of
+// the day's bookings; and if none does, whether the first T places of `helds` are what the standing bookings hold. Then `opened` and
+// `closed` have the rounds in which they open and end.
 pub fn examine(
     file: &[u8],
-    c: Catalogue,
+    refused: u32,
     day: Day,
-    rows: [Booking; MAX_BOOKINGS],
+    table: &[u64],
     places: u64,
     opens: usize,
     reserves: usize,
     held_places: usize,
+    opened: &mut [u64],
+    closed: &mut [u64],
     helds: &[u64],
 ) -> Examined
-    requires { ⌜ c ≡ catalogueOf (now file) ⌝ }
-    ensures { λ r. ⌜ ((r .number ≡ refusal (standingAsks (now (file .entry)) day rows places opens reserves «held_places»)) × (r .same ≡ true → HeldKept (settingAt (now (file .entry)) day) (take (day .count) rows) (now (helds .entry)))) ⌝ }
+    requires { ⌜ (refused ≡ verdict (now file)) × Workspace (now table) (now opened) (now closed) × (refused ≡ 0 → day .count ≤ maxBookings → EachOf (Listed (now file)) (day .count) (streams (now table))) ⌝ }
+    ensures { λ r. ⌜ Examines (now (file .entry)) day (now (table .entry)) places opens reserves «held_places» (now (helds .entry)) r (now (opened .exit)) (now (closed .exit)) ⌝ }
+    ensures { λ _. ⌜ Workspace (now (table .entry)) (now (opened .exit)) (now (closed .exit)) ⌝ }
 {
-    let refused = c.verdict;
     if refused != 0 {
         return Examined {
             number: refused,
@@ -67,7 +66,7 @@ pub fn examine(
             same: false,
         };
     }
-    let list = sound_holds(file, c, day, rows, places, helds);
+    let list = sound_holds(file, day, table, places, opened, closed, helds);
     if !list.kept {
         return Examined {
             number: UNSOUND,
@@ -78,23 +77,4 @@ pub fn examine(
         number: 0,
         same: list.same,
     }
-}
-
-// The number of the first that says no; 0 if none does. The sheet's lists are opens, reserves and helds places long.
-pub fn standing_number(
-    file: &[u8],
-    c: Catalogue,
-    day: Day,
-    rows: [Booking; MAX_BOOKINGS],
-    places: u64,
-    opens: usize,
-    reserves: usize,
-    helds: usize,
-) -> u32
-    requires { ⌜ c ≡ catalogueOf (now file) ⌝ }
-    ensures { λ r. ⌜ r ≡ refusal (standingAsks (now (file .entry)) day rows places opens reserves helds) ⌝ }
-{
-    let none = [0u64; 1];
-    let found = examine(file, c, day, rows, places, opens, reserves, helds, &none);
-    found.number
 }

@@ -1,11 +1,13 @@
 // The standing streams that share a cab with the new one, as two columns: the first round that each shows, and its end.
-use limits::bounds::MAX_BOOKINGS;
 use load::stream::Stream;
+use table::streams::stream_at;
 ghost use mathlib.Core.Path.{_≡_};
 ghost use Prim.Native.Nat.{_+_, _≤_, _<_, min, max};
 ghost use lib.ListN.{length, take};
 ghost use Rattle.limits.specs.Bounds.{maxDay, maxBookings};
 ghost use Rattle.load.specs.Stream.{lengthOf};
+ghost use Rattle.table.specs.Columns.{tableWords};
+ghost use Rattle.table.specs.Streams.{streams};
 ghost use Rattle.search.specs.Fit.{EndInDay};
 ghost use Rattle.search.specs.Search.{cabsApart, FailsTo};
 ghost use Rattle.search.specs.CabLaws.{afterClash, shares, Columns};
@@ -29,22 +31,16 @@ fn common(x: Stream, y: Stream) -> usize
     if x.cabs & y.cabs == 0 { 0 } else { 1 }
 }
 
-// Fills the columns with those of the first count of xs that share a cab with y, and tells how many these are.
-pub fn fill(
-    xs: [Stream; MAX_BOOKINGS],
-    count: usize,
-    y: Stream,
-    shows: &mut [u64],
-    ends: &mut [u64],
-) -> usize
-    requires { ⌜ (count ≤ maxBookings) × (EndInDay (take count xs)) × (count ≤ length (now shows)) × (count ≤ length (now ends)) ⌝ }
-    ensures { λ r. ⌜ (Columns (take count xs) y (now (shows .exit)) (now (ends .exit)) r) × (r ≤ count)
+// Fills the columns with those of the first count rows of the table that share a cab with y, and tells how many these are.
+pub fn fill(table: &[u64], count: usize, y: Stream, shows: &mut [u64], ends: &mut [u64]) -> usize
+    requires { ⌜ (tableWords ≤ length (now table)) × (count ≤ maxBookings) × (EndInDay (take count (streams (now table)))) × (count ≤ length (now shows)) × (count ≤ length (now ends)) ⌝ }
+    ensures { λ r. ⌜ (Columns (take count (streams (now (table .entry)))) y (now (shows .exit)) (now (ends .exit)) r) × (r ≤ count)
         × (length (now (shows .exit)) ≡ length (now (shows .entry))) × (length (now (ends .exit)) ≡ length (now (ends .entry))) ⌝ }
 {
     let mut m = 0;
     let mut i = 0;
     while i < count {
-        let x = xs[i];
+        let x = stream_at(table, i);
         let first = x.start + x.prefetch;
         let end = first + x.rounds;
         shows[m] = first as u64;

@@ -2,19 +2,19 @@
 mod cabs;
 mod disk;
 mod memory;
-mod profile;
 mod window;
 
 use limits::bounds::MAX_BOOKINGS;
 use load::stream::Stream;
 ghost use mathlib.Core.Path.{_≡_};
 ghost use Prim.Native.Nat.{_≤_};
-ghost use lib.ListN.{take};
-ghost use Rattle.limits.specs.Bounds.{maxBookings};
-ghost use Rattle.retrieval.specs.Stored.{InRange};
-ghost use Rattle.load.specs.Stream.{profileOf};
+ghost use lib.ListN.{length, take};
+ghost use Rattle.limits.specs.Bounds.{maxBookings, maxReserve};
+ghost use Rattle.load.specs.Stream.{lengthOf};
 ghost use Rattle.model.specs.Fit.{firstOf};
-ghost use Rattle.search.specs.Fit.{queryOf, fitsAt, answerOf, Window};
+ghost use Rattle.table.specs.Columns.{tableWords};
+ghost use Rattle.table.specs.Streams.{streams};
+ghost use Rattle.search.specs.Fit.{queryOf, fitsAt, answerOf, HeldRows, Window};
 
 // A start, or none of the window's.
 pub enum Found {
@@ -22,13 +22,13 @@ pub enum Found {
     Nowhere,
 }
 
-// The first start from first to last at which the stream y, whatever its own start, fits beside the first count streams of xs,
-// where opens, reserves and helds are the day sheet of those.
+// The first start from first to last at which the stream y, whatever its own start, fits beside the first count streams of the table.
+// What y holds in each of its rounds is `profile`; opens, reserves and helds are the day sheet of the others.
 pub fn first_start(
-    file: &[u8],
-    xs: [Stream; 256],
+    table: &[u64],
     count: usize,
     y: Stream,
+    profile: &[u64],
     disk: u64,
     memory: u64,
     opens: &[u64],
@@ -37,18 +37,20 @@ pub fn first_start(
     first: u64,
     last: u64,
 ) -> Found
-    requires { ⌜ (count ≤ maxBookings)
-        × (InRange (now file) (y .at) (y .rounds) (y .prefetch) (y .reserve))
-        × (Window (queryOf y (profileOf (now file) y) (take count xs) (now opens) (now reserves) (now helds) disk memory) last) ⌝ }
-    ensures { λ r. ⌜ r ≡ answerOf (firstOf (fitsAt (queryOf y (profileOf (now (file .entry)) y) (take count xs) (now (opens .entry)) (now (reserves .entry)) (now (helds .entry)) disk memory)) first last) ⌝ }
+    requires { ⌜ (tableWords ≤ length (now table))
+        × (count ≤ maxBookings)
+        × (y .reserve ≤ maxReserve)
+        × (HeldRows (now profile) (lengthOf y))
+        × (Window (queryOf y (now profile) (take count (streams (now table))) (now opens) (now reserves) (now helds) disk memory) last) ⌝ }
+    ensures { λ r. ⌜ r ≡ answerOf (firstOf (fitsAt (queryOf y (now (profile .entry)) (take count (streams (now (table .entry)))) (now (opens .entry)) (now (reserves .entry)) (now (helds .entry)) disk memory)) first last) ⌝ }
 {
     let mut shows = [0u64; MAX_BOOKINGS];
     let mut ends = [0u64; MAX_BOOKINGS];
-    let sharing = cabs::fill(xs, count, y, &mut shows, &mut ends);
+    let sharing = cabs::fill(table, count, y, &mut shows, &mut ends);
     let losses = loss::table();
-    profile::first_start(
-        file,
+    window::first_fit(
         y,
+        profile,
         &shows[..sharing],
         &ends[..sharing],
         &losses,

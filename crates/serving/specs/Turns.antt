@@ -69,29 +69,26 @@ module _ (file : List ℕ) (c : Catalogue) (s : SessionState) (begun bytes : Lis
         }
 
     -- the line ends, and is answered in the part of the buffer that is left
-    module _ (opens₁ reserves₁ helds₁ : List ℕ) (same : sessionAt day rows opens₁ reserves₁ helds₁ ≡ here) (out₁ : List ℕ) (front : take used out₁ ≡ take used out)
+    module _ (out₁ : List ℕ) (front : take used out₁ ≡ take used out)
         (part : List ℕ) (enough : outputBytes ≤ length part) (day′ : Day) (rows′ : List Booking) (opens′ reserves′ helds′ part′ : List ℕ) (n : ℕ)
-        (a : record { state = sessionAt day′ rows′ opens′ reserves′ helds′; buffer = part′; count = n } ≡ stepOf file (sessionAt day rows opens₁ reserves₁ helds₁) (t .command) part) where
+        (a : record { state = sessionAt day′ rows′ opens′ reserves′ helds′; buffer = part′; count = n } ≡ stepOf file here (t .command) part) where
       abbrev after : After
       after = record { state = sessionAt day′ rows′ opens′ reserves′ helds′; buffer = part′; count = n }
-
-      stepped : after ≡ stepOf file here (t .command) part
-      stepped = a ∙ ap (λ (x : SessionState). stepOf file x (t .command) part) same
 
       size : length (take used out) ≡ used
       size = length-take-le used out (g .room)
 
       pub turn-count : n ≤ outputBytes
-      turn-count = step-count file here (t .command) (take used out) used part size enough after stepped
+      turn-count = step-count file here (t .command) (take used out) used part size enough after a
 
       pub turn-line : t .ended ≡ true → (out′ : List ℕ) → out′ ≡ take used out₁ ++ part′ → used + n ≤ length out′
           → Going line′ out′ opens′ reserves′ helds′ day′ rows′ (t .held) (t .next) (used + n)
       turn-line e out′ o fits =
           let state : sessionAt day′ rows′ opens′ reserves′ helds′ ≡ stateAfter file here (t .command) =
-          step-state file here (t .command) (take used out) used part size enough after stepped in
+          step-state file here (t .command) (take used out) used part size enough after a in
           let text : take (used + n) out′ ≡ take used out ++ textOf file here (t .command) =
           ap (take (used + n)) (o ∙ ap (λ (x : List ℕ). x ++ part′) front)
-          ∙ step-text file here (t .command) (take used out) used part size enough after stepped in
+          ∙ step-text file here (t .command) (take used out) used part size enough after a in
           record {
             within = w .within;
             few = w .few;

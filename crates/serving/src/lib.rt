@@ -1,12 +1,15 @@
 // The input served as it comes: each line is answered when it ends, and the answers are collected in a buffer.
-use answering::step_rows;
-use answering::try_quiet;
 use commands::parse;
 use console::OUTPUT_BYTES;
 use console::Session;
 use console::step;
 use films::types::Catalogue;
 use input::next_line;
+use rounds::KEPT_WORDS;
+use rounds::REPORT_WORDS;
+use rounds::step_ahead;
+use rounds::try_ahead;
+use table::streams::TABLE_WORDS;
 ghost use mathlib.Core.Path.{_≡_};
 ghost use Prim.Native.Nat.{_≤_};
 ghost use lib.ListN.{length, take};
@@ -47,6 +50,11 @@ pub fn serve_bytes(
     let mut kept = held;
     let mut at = 0;
     let mut used = 0;
+    let mut table = [0u64; TABLE_WORDS];
+    let mut ahead = [0u64; KEPT_WORDS];
+    let mut words = [0u64; REPORT_WORDS];
+    let mut from = 0;
+    let mut to = 0;
     while at < bytes.len() && OUTPUT_BYTES <= out.len() - used {
         let taken = next_line(line, kept, bytes, at);
         let command = taken.command;
@@ -55,40 +63,43 @@ pub fn serve_bytes(
         if !taken.ended {
             continue;
         }
-        let quiet = try_quiet(
+        let reply = try_ahead(
             file,
-            c,
             day,
-            rows,
             command,
-            opens,
-            reserves,
-            helds,
+            &table,
+            &ahead,
+            from,
+            to,
+            &mut words,
             &mut out[used..],
         );
-        if quiet.done {
-            let after = quiet.day;
-            day = after;
-            used += quiet.length;
+        if 0 < reply.length {
+            day.now = reply.now;
+            used += reply.length;
             continue;
         }
-        let stepped = step_rows(
+        let stepped = step_ahead(
             file,
             c,
             day,
             rows,
             command,
+            &mut table,
+            &mut ahead,
+            &mut words,
             opens,
             reserves,
             helds,
             &mut out[used..],
         );
-        let session = stepped.session;
-        let after = session.day;
-        let left = session.rows;
+        let after = stepped.day;
+        let left = stepped.rows;
         day = after;
         rows = left;
         used += stepped.length;
+        from = stepped.from;
+        to = stepped.to;
     }
     Served {
         session: Session { day, rows },

@@ -8,3 +8,4 @@ pub mod AgreeLaws
 pub mod FillLaws
 pub mod SheetLaws
 pub mod LaidLaws
+pub mod HeldLaws

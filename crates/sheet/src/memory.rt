@@ -3,6 +3,7 @@
 use crate::clear::clear;
 use limits::bounds::MAX_BOOKINGS;
 use load::stream::Stream;
+use table::streams::stream_at;
 ghost use mathlib.Core.Path.{_≡_};
 ghost use mathlib.Core.Bool.{true, _&&_};
 ghost use Prim.Native.Nat.{ℕ, _+_, _-_, _≤_, _<_, min, max};
@@ -12,6 +13,8 @@ ghost use Rattle.limits.specs.Bounds.{maxBookings};
 ghost use Rattle.laws.specs.Tests.{all};
 ghost use Rattle.load.specs.Basic.{Bounded, Playable, Within, EachOf};
 ghost use Rattle.load.specs.Stream.{heldIn};
+ghost use Rattle.table.specs.Columns.{tableWords};
+ghost use Rattle.table.specs.Streams.{streams};
 ghost use Rattle.sheet.specs.Memory.{feasible, memoryKept, Spans, later, openUntil, earlier, openFrom};
 ghost use Rattle.sheet.specs.Memory.{Windowed, Added, Fills, Filled, WindowKept, Agrees};
 
@@ -39,13 +42,13 @@ fn smaller(a: usize, b: usize) -> usize
 }
 
 // Writes the starts and the ends, s + p + n, of the first `count` streams.
-fn spans(xs: [Stream; MAX_BOOKINGS], count: usize, starts: &mut [usize], ends: &mut [usize])
-    requires { ⌜ (count ≤ maxBookings) × EachOf Bounded count xs × (count ≤ length (now starts)) × (count ≤ length (now ends)) ⌝ }
-    ensures { λ _. ⌜ Spans count xs (now (starts .exit)) (now (ends .exit)) ⌝ }
+fn spans(table: &[u64], count: usize, starts: &mut [usize], ends: &mut [usize])
+    requires { ⌜ (tableWords ≤ length (now table)) × (count ≤ maxBookings) × EachOf Bounded count (streams (now table)) × (count ≤ length (now starts)) × (count ≤ length (now ends)) ⌝ }
+    ensures { λ _. ⌜ Spans count (streams (now (table .entry))) (now (starts .exit)) (now (ends .exit)) ⌝ }
 {
     let mut i = 0;
     while i < count {
-        let x = xs[i];
+        let x = stream_at(table, i);
         starts[i] = x.start;
         ends[i] = x.start + x.prefetch + x.rounds;
         i += 1;
@@ -130,19 +133,19 @@ pub fn window_add(file: &[u8], x: Stream, window: &mut [u64], w: usize, e: usize
 // their rounds from e on, into those of their rounds from w on.
 fn window_fill(
     file: &[u8],
-    xs: [Stream; MAX_BOOKINGS],
+    table: &[u64],
     count: usize,
     window: &mut [u64],
     w: usize,
     e: usize,
     carries: &mut [u64],
 )
-    requires { ⌜ Fills (now file) xs count (now window) w e (now carries) ⌝ }
-    ensures { λ _. ⌜ Filled (now (file .entry)) xs count (now (window .exit)) w e (now (carries .exit)) ⌝ }
+    requires { ⌜ (tableWords ≤ length (now table)) × Fills (now file) (streams (now table)) count (now window) w e (now carries) ⌝ }
+    ensures { λ _. ⌜ Filled (now (file .entry)) (streams (now (table .entry))) count (now (window .exit)) w e (now (carries .exit)) ⌝ }
 {
     let mut i = 0;
     while i < count {
-        let x = xs[i];
+        let x = stream_at(table, i);
         let c = carries[i];
         carries[i] = window_add(file, x, window, w, e, c);
         i += 1;
@@ -210,7 +213,7 @@ fn empty_places(asked: bool, list: &[u64], a: usize, e: usize) -> bool
 // is held in them. Turns `carries`, those of the first `count` streams' rounds from e on, into those of their rounds from w on.
 fn window_kept(
     file: &[u8],
-    xs: [Stream; MAX_BOOKINGS],
+    table: &[u64],
     count: usize,
     window: &mut [u64],
     w: usize,
@@ -220,12 +223,12 @@ fn window_kept(
     asked: bool,
     helds: &[u64],
 ) -> Checked
-    requires { ⌜ (length (now window) ≡ e - w) × Fills (now file) xs count (replicate (e - w) 0) w e (now carries) × (asked ≡ true → e ≤ length (now helds)) ⌝ }
-    ensures { λ r. ⌜ (WindowKept (now (file .entry)) xs count memory w e (now (carries .exit)) (r .kept) × (r .same ≡ true → (asked ≡ true) × ((t : ℕ) → w ≤ t → t < e → getD (now (helds .entry)) t 0 ≡ heldIn (now (file .entry)) t (take count xs)))) ⌝ }
+    requires { ⌜ (tableWords ≤ length (now table)) × (length (now window) ≡ e - w) × Fills (now file) (streams (now table)) count (replicate (e - w) 0) w e (now carries) × (asked ≡ true → e ≤ length (now helds)) ⌝ }
+    ensures { λ r. ⌜ (WindowKept (now (file .entry)) (streams (now (table .entry))) count memory w e (now (carries .exit)) (r .kept) × (r .same ≡ true → (asked ≡ true) × ((t : ℕ) → w ≤ t → t < e → getD (now (helds .entry)) t 0 ≡ heldIn (now (file .entry)) t (take count (streams (now (table .entry))))))) ⌝ }
 {
     let n = e - w;
     clear(window, n);
-    window_fill(file, xs, count, window, w, e, carries);
+    window_fill(file, table, count, window, w, e, carries);
     let kept = window_within(window, n, memory);
     let same = same_places(asked, helds, w, window, n);
     Checked { kept, same }
@@ -250,18 +253,18 @@ fn none_left(carries: [u64; MAX_BOOKINGS], count: usize) -> bool
 // places of `helds` are what is held by round. A list that is shorter is not looked at.
 pub fn held_within(
     file: &[u8],
-    xs: [Stream; MAX_BOOKINGS],
+    table: &[u64],
     count: usize,
     day_rounds: usize,
     memory: u64,
     helds: &[u64],
 ) -> Checked
-    requires { ⌜ (count ≤ maxBookings) × EachOf (Playable (now file)) count xs × EachOf (Within «day_rounds») count xs ⌝ }
-    ensures { λ r. ⌜ ((r .kept ≡ memoryKept (now (file .entry)) memory «day_rounds» (take count xs) && all (feasible (now (file .entry))) (take count xs)) × (r .same ≡ true → Agrees (now (file .entry)) (take count xs) (now (helds .entry)) 0 «day_rounds»)) ⌝ }
+    requires { ⌜ (tableWords ≤ length (now table)) × (count ≤ maxBookings) × EachOf (Playable (now file)) count (streams (now table)) × EachOf (Within «day_rounds») count (streams (now table)) ⌝ }
+    ensures { λ r. ⌜ ((r .kept ≡ memoryKept (now (file .entry)) memory «day_rounds» (take count (streams (now (table .entry)))) && all (feasible (now (file .entry))) (take count (streams (now (table .entry))))) × (r .same ≡ true → Agrees (now (file .entry)) (take count (streams (now (table .entry)))) (now (helds .entry)) 0 «day_rounds»)) ⌝ }
 {
     let mut starts = [0usize; MAX_BOOKINGS];
     let mut ends = [0usize; MAX_BOOKINGS];
-    spans(xs, count, &mut starts, &mut ends);
+    spans(table, count, &mut starts, &mut ends);
     let mut carries = [0u64; MAX_BOOKINGS];
     let mut window = [0u64; WINDOW];
     let mut e = open_until(&starts, &ends, count, day_rounds);
@@ -272,7 +275,7 @@ pub fn held_within(
         let n = e - w;
         let checked = window_kept(
             file,
-            xs,
+            table,
             count,
             &mut window[..n],
             w,

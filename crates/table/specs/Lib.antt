@@ -4,4 +4,7 @@ pub mod Table
 pub mod Words
 pub mod ListLaws
 pub mod WordLaws
+pub mod Columns
 pub mod TableLaws
+pub mod Streams
+pub mod RowLaws

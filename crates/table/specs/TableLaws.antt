@@ -6,7 +6,8 @@ use native.Mathlib.Decide.{decLe}
 use native.Mathlib.Nat.{add-zero}
 use native.Mathlib.Omega.{arith}
 use lib.ListN.{length, getD, take, drop, length-append, length-drop, List·getD-append}
-use lib.Seq.{length-take-le, getD-take, getD-drop, getD-append-add, getD-at}
+use native.Mathlib.Numerals.{add-one}
+use lib.Seq.{take-suc, length-take-le, getD-take, getD-drop, getD-append-add, getD-at}
 use Rattle.films.specs.declared.types.Catalogue.{Catalogue}
 use Rattle.model.specs.Calls.{noBooking}
 use Rattle.model.specs.declared.Booking.{Booking}
@@ -157,3 +158,14 @@ module _ (c : Catalogue) (bs : List Booking) (table : List ℕ) (w : Tabled c bs
           ∙ getD-drop (suc i) bs (j - i) noBooking
           ∙ ap (λ (k : ℕ). getD bs k noBooking) r in
           rw e (same-row new j table (j + 1) _ _ (row-down table new (length bs) i h m j v u) (w .row (j + 1) (omega arith)))
+
+-- one more row, of the bookings of a list
+pub tabled-next : (c : Catalogue) (rows : List Booking) (i : ℕ) (table new : List ℕ) → i < length rows → rowWords * i + rowWords ≤ length table
+    → Tabled c (take i rows) table → new ≡ withRow table i (getD rows i noBooking .name) (streamOf c (getD rows i noBooking))
+    → Tabled c (take (i + 1) rows) new
+tabled-next c rows i table new h l w e =
+    let b = getD rows i noBooking in
+    let n : length (take i rows) ≡ i = length-take-le i rows (omega arith) in
+    let next : take (i + 1) rows ≡ take i rows ++ (b ∷ []) = ap (λ (k : ℕ). take k rows) (add-one i) ∙ take-suc rows i noBooking h in
+    let more = tabled-more c (take i rows) table w b (omega arith) in
+    rw (next, e) (rw n at more)

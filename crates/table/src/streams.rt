@@ -3,9 +3,8 @@ use crate::rows::move_down;
 use crate::rows::write_four;
 use load::stream::Stream;
 ghost use mathlib.Core.Path.{_≡_};
-ghost use Prim.Native.Nat.{_+_, _*_, _-_, _≤_, _<_};
+ghost use Prim.Native.Nat.{_+_, _*_, _-_, _^_, _≤_, _<_};
 ghost use lib.ListN.{length};
-ghost use Rattle.load.specs.Basic.{Bounded};
 ghost use Rattle.load.specs.Stream.{openIn, endOf};
 ghost use Rattle.table.specs.Rows.{MovedDown};
 ghost use Rattle.table.specs.Table.{rowWords, nameAt, streamAt, endAt, withRow, Ended};
@@ -50,7 +49,7 @@ pub fn stream_at(table: &[u64], i: usize) -> Stream
 
 // Writes row i.
 pub fn keep(table: &mut [u64], i: usize, name: u32, x: Stream)
-    requires { ⌜ (rowWords * i + rowWords ≤ length (now table)) × Bounded x ⌝ }
+    requires { ⌜ (rowWords * i + rowWords ≤ length (now table)) × (endOf x < 2 ^ 64) ⌝ }
     ensures { λ _. ⌜ now (table .exit) ≡ withRow (now (table .entry)) i name x ⌝ }
 {
     let middle = write_four(

@@ -61,6 +61,10 @@ answerFields name round (Played films cabs) = roundWord ++ field round ++ field 
 abbrev pub answerText : ℕ → ℕ → Answer → List ℕ
 answerText name round answer = answerFields name round answer ++ end
 
+-- the line of these fields
+abbrev pub lineOf : ℕ → ℕ → ℕ → ℕ → Line
+lineOf name read send held = record { name = name; read = read; send = send; held = held }
+
 -- "then name read send held"
 abbrev pub lineText : Line → List ℕ
 lineText l = decimal (l .name) ++ field (l .read) ++ field (l .send) ++ field (l .held) ++ end

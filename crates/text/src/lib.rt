@@ -7,7 +7,7 @@ ghost use mathlib.Core.List.{_++_};
 ghost use Prim.Native.Nat.{_+_, _*_, _≤_, _<_};
 ghost use lib.ListN.{length};
 ghost use Rattle.limits.specs.Bounds.{maxDigits};
-ghost use Rattle.text.specs.Text.{decimal, twoDigits, field, end, answerFields, answerText, lineText};
+ghost use Rattle.text.specs.Text.{decimal, twoDigits, field, end, answerFields, answerText, lineOf, lineText};
 ghost use Rattle.text.specs.Write.{placed, Wrote, maxField, maxText, bufferAfter, placeAfter};
 
 // The place after what was written; or the buffer had no room for a line of the longest kind, and nothing was written.
@@ -159,14 +159,23 @@ pub fn write_answer(out: &mut [u8], at: usize, name: u32, round: u64, answer: An
 }
 
 // Writes a line of a report but for its end.
-fn put_line(out: &mut [u8], at: usize, line: Line) -> usize
+fn put_line(out: &mut [u8], at: usize, name: u64, read: u64, send: u64, held: u64) -> usize
     requires { ⌜ at + maxText ≤ length (now out) ⌝ }
-    ensures { λ r. ⌜ Wrote (now (out .entry)) at (decimal (line .name) ++ field (line .read) ++ field (line .send) ++ field (line .held)) (now (out .exit)) r ⌝ }
+    ensures { λ r. ⌜ Wrote (now (out .entry)) at (decimal name ++ field read ++ field send ++ field held) (now (out .exit)) r ⌝ }
 {
-    let name = put_decimal(out, at, line.name as u64);
-    let read = put_field(out, name, line.read);
-    let send = put_field(out, read, line.send);
-    put_field(out, send, line.held)
+    let first = put_decimal(out, at, name);
+    let second = put_field(out, first, read);
+    let third = put_field(out, second, send);
+    put_field(out, third, held)
+}
+
+// Writes the line of a report that has these fields.
+pub fn put_row(out: &mut [u8], at: usize, name: u64, read: u64, send: u64, held: u64) -> usize
+    requires { ⌜ at + maxText ≤ length (now out) ⌝ }
+    ensures { λ r. ⌜ Wrote (now (out .entry)) at (lineText (lineOf name read send held)) (now (out .exit)) r ⌝ }
+{
+    let next = put_line(out, at, name, read, send, held);
+    put_end(out, next)
 }
 
 // Writes a line of a report.
@@ -180,6 +189,5 @@ pub fn write_line(out: &mut [u8], at: usize, line: Line) -> Written
     if out.len() - at < MAX_TEXT {
         return Written::NoRoom;
     }
-    let next = put_line(out, at, line);
-    Written::Next(put_end(out, next))
+    Written::Next(put_row(out, at, line.name as u64, line.read, line.send, line.held))
 }

@@ -1,4 +1,5 @@
 -- `answering::step_book` meets its contract: it is the model's booking, whose first questions pass. Assumes nothing.
+use mathlib.Core.Path.{refl}
 use Rattle.answering.specs.Contract.{sessionAt}
 use Rattle.answering.specs.Kept.{ready-asks}
 use Rattle.answering.specs.Sheet.{kept-sheet}
@@ -36,16 +37,20 @@ returns c =
     let booked = c .before .before .before .before .before .before .before .before .before .before .before .before .book-kept in
     let start = c .before .before .before .before .before .before .before .before .before .before .before .before .before .before .before .before .before .before .before .before .before in
     let a = start .args in
-    book-step (a .file .now) (a .day) (a .rows) (a .opens .now) (a .reserves .now) (a .helds .now) (a .out .now) (start .pre .0) (a .q) (booked .result .answer)
-    (booked .result .day)
-    (booked .result .rows)
-    _
-    _
-    _
-    (booked .ensures)
-    _
-    _
-    (wrote .ensures)
+    record {
+      none = refl;
+      step =
+          book-step (a .file .now) (a .day) (a .rows) (a .opens .now) (a .reserves .now) (a .helds .now) (a .out .now) (start .pre .0) (a .q) (booked .result .answer)
+          (booked .result .day)
+          (booked .result .rows)
+          _
+          _
+          _
+          (booked .ensures)
+          _
+          _
+          (wrote .ensures);
+    }
 
 pub step-book-spec : {M : Type 1} → statement M
 step-book-spec =

@@ -1,4 +1,5 @@
 -- `answering::step_drop` meets its contract: it is the model's drop, whose first questions pass. Assumes nothing.
+use mathlib.Core.Path.{refl}
 use Rattle.answering.specs.Contract.{sessionAt}
 use Rattle.answering.specs.Kept.{ready-asks}
 use Rattle.answering.specs.Sheet.{kept-sheet}
@@ -36,14 +37,18 @@ returns c =
     let dropped = c .before .before .before .before .before .before .before .before .before .before .before .before .drop-kept in
     let start = c .before .before .before .before .before .before .before .before .before .before .before .before .before .before .before .before .before .before .before .before .before in
     let a = start .args in
-    drop-step (a .file .now) (a .day) (a .rows) (a .opens .now) (a .reserves .now) (a .helds .now) (a .out .now) (start .pre .0) (a .name) (dropped .result)
-    _
-    _
-    _
-    (dropped .ensures)
-    _
-    _
-    (wrote .ensures)
+    record {
+      none = refl;
+      step =
+          drop-step (a .file .now) (a .day) (a .rows) (a .opens .now) (a .reserves .now) (a .helds .now) (a .out .now) (start .pre .0) (a .name) (dropped .result)
+          _
+          _
+          _
+          (dropped .ensures)
+          _
+          _
+          (wrote .ensures);
+    }
 
 pub step-drop-spec : {M : Type 1} → statement M
 step-drop-spec =

@@ -3,8 +3,8 @@ use borrow.Author.Needs.{needs}
 use Rattle.answering.proofs.step_rows.Statement.{statement}
 use Rattle.answering.proofs.step_rows.Tie as tie
 
-step-requires : tie.Need-step-requires
-step-requires c κs = search needs
+step-any-requires : tie.Need-step-any-requires
+step-any-requires c κs = search needs
 
 same-length : tie.Need-same-length
 same-length c = search needs
@@ -36,20 +36,20 @@ step-drop-requires c κs = search needs
 enum-told : tie.Need-enum-told
 enum-told c = search needs
 
-step-requires-2 : tie.Need-step-requires-2
-step-requires-2 c κs = search needs
+step-any-requires-2 : tie.Need-step-any-requires-2
+step-any-requires-2 c κs = search needs
 
 enum-told-2 : tie.Need-enum-told-2
 enum-told-2 c = search needs
 
-step-requires-3 : tie.Need-step-requires-3
-step-requires-3 c κs = search needs
+step-any-requires-3 : tie.Need-step-any-requires-3
+step-any-requires-3 c κs = search needs
 
 enum-told-3 : tie.Need-enum-told-3
 enum-told-3 c = search needs
 
-step-requires-4 : tie.Need-step-requires-4
-step-requires-4 c κs = search needs
+step-any-requires-4 : tie.Need-step-any-requires-4
+step-any-requires-4 c κs = search needs
 
 same-length-5 : tie.Need-same-length-5
 same-length-5 c = search needs
@@ -130,7 +130,7 @@ pub step-rows-spec : {M : Type 1} → statement M
 step-rows-spec =
     tie.close
     (tie.spec
-    step-requires
+    step-any-requires
     same-length
     same-length-2
     same-length-3
@@ -141,11 +141,11 @@ step-rows-spec =
     enum-known-command-2
     step-drop-requires
     enum-told
-    step-requires-2
+    step-any-requires-2
     enum-told-2
-    step-requires-3
+    step-any-requires-3
     enum-told-3
-    step-requires-4
+    step-any-requires-4
     same-length-5
     same-length-6
     same-length-7

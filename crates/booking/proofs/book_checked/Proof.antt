@@ -1,38 +1,141 @@
--- `booking::book_checked` meets its contract: booking's own questions decide, and where none says no the request is placed. Assumes
--- nothing.
-use mathlib.Core.Path.{sym, _∙_}
-use lib.ListN.{length}
+-- `booking::book_checked` meets its contract: booking's own questions decide; where none says no the sheet laid is that of the standing bookings,
+-- and a call on it is a call on the lent one. Assumes nothing.
 use borrow.Author.Needs.{needs}
+use mathlib.Core.Path.{_≡_, sym, ap, _∙_}
+use Prim.Native.Nat.{_≤_}
+use native.Mathlib.Omega.{arith}
+use lib.ListN.{length, take}
+use lib.Seq.{length-take-le}
+use Rattle.limits.specs.Bounds.{maxBookings}
+use Rattle.laws.specs.Words.{Bytes}
+use Rattle.films.specs.Catalogue.{catalogueOf}
+use Rattle.load.specs.Stream.{lengthOf}
+use Rattle.table.specs.Streams.{streams}
+use Rattle.questions.specs.ListSound.{tabled-streams}
 use Rattle.questions.specs.Standing.{standing-held}
-use Rattle.booking.specs.Placed.{own-decides, leaves-refused}
+use Rattle.booking.specs.Own.{maxLength}
+use Rattle.booking.specs.Placed.{own-decides, leaves-refused, short, lays, held-agrees}
+use Rattle.booking.specs.Placing.{laid-placing, laid-leaves}
 use Rattle.booking.proofs.book_checked.Statement.{statement}
 use Rattle.booking.proofs.book_checked.Tie as tie
 
+bytes : (known : tie.After-shared-slice-known) → Bytes (known .before .args .file .now)
+bytes known k = omega (arith, known .shared-slice-known .given k)
+
+slice-aggregate-own-number : tie.Need-slice-aggregate-own-number
+slice-aggregate-own-number c = search needs
+
 own-number-requires : tie.Need-own-number-requires
 own-number-requires c κs =
-    let start = c .before .before .before .before in
+    let start = c .before .before .before .before .before .before .before .before in
     let a = start .args in
-    let s = standing-held (a .file .now) (a .day) (a .rows) (a .places) (length (a .opens .now)) (length (a .reserves .now)) (length (a .helds .now)) (start .pre .1) in
-    (start .pre .0, s .accepted, s .few, s .rounds)
+    let f = a .file .now in
+    let xs = streams (a .table .now) in
+    let full : length (a .rows) ≡ maxBookings = omega (arith, start) in
+    let s = standing-held f (a .day) (a .rows) (a .places) (length (a .opens .now)) (length (a .reserves .now)) (length (a .helds .now)) (start .pre .1) in
+    (start .pre .0, s .accepted, s .few, s .rounds, start .pre .2 .words, search needs)
 
 returns : tie.Need-returns
 returns c =
-    let number = c .before .own-number in
-    let start = c .before .before .before .before .before .before in
+    let start = c .before .before .before .before .before .before .before .before .before .before .before in
     let a = start .args in
-    let n = own-decides (a .file .now) (a .day) (a .rows) (a .places) (a .q) (length (a .opens .now)) (length (a .reserves .now)) (length (a .helds .now))
-    (number .result) (start .pre .1) (number .ensures) in
-    leaves-refused (a .file .now) (a .day) (a .rows) (a .places) (a .q) (a .opens .now) (a .reserves .now) (a .helds .now) (number .result) n (c .if1 .taken)
+    let f = a .file .now in
+    let xs = streams (a .table .now) in
+    let full : length (a .rows) ≡ maxBookings = omega (arith, start) in
+    let s = standing-held f (a .day) (a .rows) (a .places) (length (a .opens .now)) (length (a .reserves .now)) (length (a .helds .now)) (start .pre .1) in
+    let number = c .before .before .own-number in
+    let n = own-decides f (a .day) (a .rows) (a .places) (a .q) (length (a .opens .now)) (length (a .reserves .now)) (length (a .helds .now)) (number .result) (start .pre .1) (number .ensures .number (a .rows) full (start .pre .3)) in
+    leaves-refused f (a .day) (a .rows) (a .places) (a .q) (a .opens .now) (a .reserves .now) (a .helds .now) (number .result) n (c .if1 .taken)
 
-place-requires : tie.Need-place-requires
-place-requires c κs =
-    let test = c .before .before .before in
-    let number = test .before .own-number in
-    let start = test .before .before .before .before .before .before in
+lay-checked-requires : tie.Need-lay-checked-requires
+lay-checked-requires c κs =
+    let start = c .before .before .before .before .before .before .before .before .before .before .before .before .before .before in
     let a = start .args in
-    let n = own-decides (a .file .now) (a .day) (a .rows) (a .places) (a .q) (length (a .opens .now)) (length (a .reserves .now)) (length (a .helds .now))
-    (number .result) (start .pre .1) (number .ensures) in
-    (start .pre .0, sym n ∙ test .if1 .left, start .pre .2)
+    let f = a .file .now in
+    let xs = streams (a .table .now) in
+    let full : length (a .rows) ≡ maxBookings = omega (arith, start) in
+    let s = standing-held f (a .day) (a .rows) (a .places) (length (a .opens .now)) (length (a .reserves .now)) (length (a .helds .now)) (start .pre .1) in
+    let number = c .before .before .before .before .before .own-number in
+    let n = own-decides f (a .day) (a .rows) (a .places) (a .q) (length (a .opens .now)) (length (a .reserves .now)) (length (a .helds .now)) (number .result) (start .pre .1) (number .ensures .number (a .rows) full (start .pre .3)) in
+    let passed = sym n ∙ c .before .before .before .if1 .left in
+    let known = c .before .before .before .before .before .before .before .before .before .before .before .before .before in
+    let made = tabled-streams (catalogueOf f) (a .day .count) (a .rows) (a .table .now) (s .few) (omega (arith, s .few, full)) (start .pre .3) in (
+      start .pre .2 .words,
+      lays f (a .day) (a .rows) (a .places) (a .q) (a .opens .now) (a .reserves .now) (a .helds .now) (bytes known) full passed xs made,
+      start .pre .4,
+      omega (arith, s .few, start .pre .2 .opens),
+      omega (arith, s .few, start .pre .2 .closes),
+      λ z. held-agrees f (a .day) (a .rows) (a .places) (a .q) (a .opens .now) (a .reserves .now) (a .helds .now) (bytes known) full passed xs made (start .pre .5 z),
+    )
+
+add-n : tie.Need-add-n
+add-n c =
+    let start = c .before .before .before .before .before .before .before .before .before .before .before .before .before .before .before .before .before .before .before .before .before .before in
+    let a = start .args in
+    let f = a .file .now in
+    let xs = streams (a .table .now) in
+    let full : length (a .rows) ≡ maxBookings = omega (arith, start) in
+    let s = standing-held f (a .day) (a .rows) (a .places) (length (a .opens .now)) (length (a .reserves .now)) (length (a .helds .now)) (start .pre .1) in
+    let number = c .before .before .before .before .before .before .before .before .before .before .before .before .before .own-number in
+    let n = own-decides f (a .day) (a .rows) (a .places) (a .q) (length (a .opens .now)) (length (a .reserves .now)) (length (a .helds .now)) (number .result) (start .pre .1) (number .ensures .number (a .rows) full (start .pre .3)) in
+    let passed = sym n ∙ c .before .before .before .before .before .before .before .before .before .before .before .if1 .left in
+    let known = c .before .before .before .before .before .before .before .before .before .before .before .before .before .before .before .before .before .before .before .before .before in
+    let made = tabled-streams (catalogueOf f) (a .day .count) (a .rows) (a .table .now) (s .few) (omega (arith, s .few, full)) (start .pre .3) in
+    let few : lengthOf (a .y) ≤ maxLength = rw (start .pre .0) (short f (a .day) (a .rows) (a .places) (a .q) (a .opens .now) (a .reserves .now) (a .helds .now) (bytes known) full passed) in
+    omega (arith, few)
+
+array-share-prefix-profile : tie.Need-array-share-prefix-profile
+array-share-prefix-profile c =
+    let start = c .before .before .before .before .before .before .before .before .before .before .before .before .before .before .before .before .before .before .before .before .before .before in
+    let a = start .args in
+    let f = a .file .now in
+    let xs = streams (a .table .now) in
+    let full : length (a .rows) ≡ maxBookings = omega (arith, start) in
+    let s = standing-held f (a .day) (a .rows) (a .places) (length (a .opens .now)) (length (a .reserves .now)) (length (a .helds .now)) (start .pre .1) in
+    let number = c .before .before .before .before .before .before .before .before .before .before .before .before .before .own-number in
+    let n = own-decides f (a .day) (a .rows) (a .places) (a .q) (length (a .opens .now)) (length (a .reserves .now)) (length (a .helds .now)) (number .result) (start .pre .1) (number .ensures .number (a .rows) full (start .pre .3)) in
+    let passed = sym n ∙ c .before .before .before .before .before .before .before .before .before .before .before .if1 .left in
+    let known = c .before .before .before .before .before .before .before .before .before .before .before .before .before .before .before .before .before .before .before .before .before in
+    let made = tabled-streams (catalogueOf f) (a .day .count) (a .rows) (a .table .now) (s .few) (omega (arith, s .few, full)) (start .pre .3) in
+    let few : lengthOf (a .y) ≤ maxLength = rw (start .pre .0) (short f (a .day) (a .rows) (a .places) (a .q) (a .opens .now) (a .reserves .now) (a .helds .now) (bytes known) full passed) in
+    omega (arith, few, number .ensures .same)
+
+slice-aggregate-place-on : tie.Need-slice-aggregate-place-on
+slice-aggregate-place-on c =
+    let start = c .before .before .before .before .before .before .before .before .before .before .before .before .before .before .before .before .before .before .before .before .before .before .before in
+    let a = start .args in
+    let f = a .file .now in
+    let xs = streams (a .table .now) in
+    let full : length (a .rows) ≡ maxBookings = omega (arith, start) in
+    let s = standing-held f (a .day) (a .rows) (a .places) (length (a .opens .now)) (length (a .reserves .now)) (length (a .helds .now)) (start .pre .1) in
+    let number = c .before .before .before .before .before .before .before .before .before .before .before .before .before .before .own-number in
+    let n = own-decides f (a .day) (a .rows) (a .places) (a .q) (length (a .opens .now)) (length (a .reserves .now)) (length (a .helds .now)) (number .result) (start .pre .1) (number .ensures .number (a .rows) full (start .pre .3)) in
+    let passed = sym n ∙ c .before .before .before .before .before .before .before .before .before .before .before .before .if1 .left in
+    let known = c .before .before .before .before .before .before .before .before .before .before .before .before .before .before .before .before .before .before .before .before .before .before in
+    let made = tabled-streams (catalogueOf f) (a .day .count) (a .rows) (a .table .now) (s .few) (omega (arith, s .few, full)) (start .pre .3) in
+    let few : lengthOf (a .y) ≤ maxLength = rw (start .pre .0) (short f (a .day) (a .rows) (a .places) (a .q) (a .opens .now) (a .reserves .now) (a .helds .now) (bytes known) full passed) in
+    sym (length-take-le (lengthOf (a .y)) _ (omega (arith, few, number .ensures .same)))
+
+place-on-requires : tie.Need-place-on-requires
+place-on-requires c κs =
+    let start = c .before .before .before .before .before .before .before .before .before .before .before .before .before .before .before .before .before .before .before .before .before .before .before .before .before .before in
+    let a = start .args in
+    let f = a .file .now in
+    let xs = streams (a .table .now) in
+    let full : length (a .rows) ≡ maxBookings = omega (arith, start) in
+    let s = standing-held f (a .day) (a .rows) (a .places) (length (a .opens .now)) (length (a .reserves .now)) (length (a .helds .now)) (start .pre .1) in
+    let number = c .before .before .before .before .before .before .before .before .before .before .before .before .before .before .before .before .before .own-number in
+    let n = own-decides f (a .day) (a .rows) (a .places) (a .q) (length (a .opens .now)) (length (a .reserves .now)) (length (a .helds .now)) (number .result) (start .pre .1) (number .ensures .number (a .rows) full (start .pre .3)) in
+    let passed = sym n ∙ c .before .before .before .before .before .before .before .before .before .before .before .before .before .before .before .if1 .left in
+    let known = c .before .before .before .before .before .before .before .before .before .before .before .before .before .before .before .before .before .before .before .before .before .before .before .before .before in
+    let made = tabled-streams (catalogueOf f) (a .day .count) (a .rows) (a .table .now) (s .few) (omega (arith, s .few, full)) (start .pre .3) in
+    record {
+      file = f;
+      places = a .places;
+      bytes = bytes known;
+      placing = laid-placing f (a .day) (a .rows) (a .places) (a .q) xs (a .opens .now) (a .reserves .now) (a .helds .now) _ _ _ (bytes known) full passed made (c .before .before .before .before .before .before .before .before .before .before .before .lay-checked .ensures) (a .y) _ (start .pre .0) (number .ensures .held (c .before .before .before .before .before .before .before .before .before .before .before .before .before .before .before .if1 .left));
+      words = start .pre .2 .words;
+    }
 
 same-length : tie.Need-same-length
 same-length c = search needs
@@ -44,15 +147,35 @@ same-length-3 : tie.Need-same-length-3
 same-length-3 c = search needs
 
 returns-2 : tie.Need-returns-2
-returns-2 c = search needs
+returns-2 c =
+    let start = c .before .before .before .before .before .before .before .before .before .before .before .before .before .before .before .before .before .before .before .before .before .before .before .before .before .before .before .before .before .before .before .before .before in
+    let a = start .args in
+    let f = a .file .now in
+    let xs = streams (a .table .now) in
+    let full : length (a .rows) ≡ maxBookings = omega (arith, start) in
+    let s = standing-held f (a .day) (a .rows) (a .places) (length (a .opens .now)) (length (a .reserves .now)) (length (a .helds .now)) (start .pre .1) in
+    let number = c .before .before .before .before .before .before .before .before .before .before .before .before .before .before .before .before .before .before .before .before .before .before .before .before .own-number in
+    let n = own-decides f (a .day) (a .rows) (a .places) (a .q) (length (a .opens .now)) (length (a .reserves .now)) (length (a .helds .now)) (number .result) (start .pre .1) (number .ensures .number (a .rows) full (start .pre .3)) in
+    let passed = sym n ∙ c .before .before .before .before .before .before .before .before .before .before .before .before .before .before .before .before .before .before .before .before .before .before .if1 .left in
+    let known = c .before .before .before .before .before .before .before .before .before .before .before .before .before .before .before .before .before .before .before .before .before .before .before .before .before .before .before .before .before .before .before .before in
+    let made = tabled-streams (catalogueOf f) (a .day .count) (a .rows) (a .table .now) (s .few) (omega (arith, s .few, full)) (start .pre .3) in
+    let laid = c .before .before .before .before .before .before .before .before .before .before .before .before .before .before .before .before .before .before .lay-checked .ensures in
+    let placing = laid-placing f (a .day) (a .rows) (a .places) (a .q) xs (a .opens .now) (a .reserves .now) (a .helds .now) _ _ _ (bytes known) full passed made laid (a .y) _ (start .pre .0) (number .ensures .held (c .before .before .before .before .before .before .before .before .before .before .before .before .before .before .before .before .before .before .before .before .before .before .if1 .left)) in
+    laid-leaves f (a .day) (a .rows) (a .places) (a .q) xs (a .opens .now) (a .reserves .now) (a .helds .now) _ _ _ (bytes known) full passed made laid _ _ _ _ _ _
+    (c .before .before .before .before .before .before .place-on .ensures f (a .places) (bytes known) placing)
 
 pub book-checked-spec : {M : Type 1} → statement M
 book-checked-spec =
     tie.close
     (tie.spec
+    slice-aggregate-own-number
     own-number-requires
     returns
-    place-requires
+    lay-checked-requires
+    add-n
+    array-share-prefix-profile
+    slice-aggregate-place-on
+    place-on-requires
     same-length
     same-length-2
     same-length-3

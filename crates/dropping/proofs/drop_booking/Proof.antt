@@ -1,31 +1,93 @@
--- `dropping::drop_booking` meets its contract: a number before 19 stands and leaves everything, else the rest decides. Assumes nothing.
+-- `dropping::drop_booking` meets its contract: the table has the day's bookings, of which the questions are asked; a number before 19 stands
+-- and leaves everything, else the rest decides. Assumes nothing.
 use mathlib.Core.Path.{refl, sym, _∙_}
+use native.Mathlib.Omega.{arith}
 use borrow.Author.Needs.{needs}
+use Rattle.films.specs.Ordered.{catalogue-ordered}
 use Rattle.dropping.specs.Laws.{standing-refused}
+use Rattle.dropping.specs.CheckedLaws.{day-tabled, examine-asks}
 use Rattle.dropping.proofs.drop_booking.Statement.{statement}
 use Rattle.dropping.proofs.drop_booking.Tie as tie
 
 catalogue-requires : tie.Need-catalogue-requires
 catalogue-requires c κs = search needs
 
+smaller-requires : tie.Need-smaller-requires
+smaller-requires c κs = search needs
+
+slice-aggregate-tabulate : tie.Need-slice-aggregate-tabulate
+slice-aggregate-tabulate c = search needs
+
+tabulate-requires : tie.Need-tabulate-requires
+tabulate-requires c κs =
+    let listed = c .before in
+    let made = listed .before in
+    let start = made .before .before .before .before .before in
+    (omega (arith, listed .smaller .ensures), rw (made .catalogue .ensures) (catalogue-ordered (start .args .file .now)), search needs)
+
+slice-aggregate-examine : tie.Need-slice-aggregate-examine
+slice-aggregate-examine c = search needs
+
+slice-aggregate-examine-2 : tie.Need-slice-aggregate-examine-2
+slice-aggregate-examine-2 c = search needs
+
+slice-aggregate-examine-3 : tie.Need-slice-aggregate-examine-3
+slice-aggregate-examine-3 c = search needs
+
 examine-requires : tie.Need-examine-requires
-examine-requires c κs = search needs
+examine-requires c κs =
+    let tabled = c .before .before .before .before .before in
+    let listed = tabled .before .before in
+    let made = listed .before in
+    let start = made .before .before .before .before .before in
+    let a = start .args in
+    examine-asks (a .file .now) (made .catalogue .result) (a .day) (a .rows) (made .catalogue .ensures) (omega (arith, start)) (listed .smaller .result)
+    (listed .smaller .ensures) (tabled .tabulate .last .1 .1 .1 .0) (tabled .tabulate .ensures .0) _ _ (record { words = search needs; opens = search needs; closes = search needs })
 
 same-length : tie.Need-same-length
 same-length c = search needs
 
 returns : tie.Need-returns
 returns c =
-    let number = c .before .examine in
-    let a = c .before .before .before .before .before .before .before .before .args in
-    standing-refused (a .file .now) (a .day) (a .rows) (a .places) (a .opens .now) (a .reserves .now) (a .helds .now) (number .result .number)
-    (number .ensures .0) (a .name) _ (c .if1 .taken) refl refl refl
+    let tabled = c .before .before .before .before .before .before .before .before .before in
+    let listed = tabled .before .before in
+    let made = listed .before in
+    let start = made .before .before .before .before .before in
+    let a = start .args in
+    let asked = c .before .before .before .examine in
+    standing-refused (a .file .now) (a .day) (a .rows) (a .places) (a .opens .now) (a .reserves .now) (a .helds .now) (asked .result .number)
+    (asked .ensures .0 .number (a .rows) (omega (arith, start)) (day-tabled (a .file .now) (made .catalogue .result) (a .day) (a .rows) (made .catalogue .ensures) (omega (arith, start)) (listed .smaller .result)
+    (listed .smaller .ensures) (tabled .tabulate .last .1 .1 .1 .0) (tabled .tabulate .ensures .0))) (a .name) _ (c .if1 .taken) refl refl refl
+
+slice-aggregate-drop-checked : tie.Need-slice-aggregate-drop-checked
+slice-aggregate-drop-checked c = search needs
+
+slice-aggregate-drop-checked-2 : tie.Need-slice-aggregate-drop-checked-2
+slice-aggregate-drop-checked-2 c = search needs
+
+slice-aggregate-drop-checked-3 : tie.Need-slice-aggregate-drop-checked-3
+slice-aggregate-drop-checked-3 c = search needs
 
 drop-checked-requires : tie.Need-drop-checked-requires
 drop-checked-requires c κs =
-    let passed = c .before .before .before in
-    let number = passed .before .examine in
-    (search needs, sym (number .ensures .0) ∙ passed .if1 .left, number .ensures .1)
+    let tabled = c .before .before .before .before .before .before .before .before .before .before .before .before .before .before .before in
+    let listed = tabled .before .before in
+    let made = listed .before in
+    let start = made .before .before .before .before .before in
+    let a = start .args in
+    let passed = c .before .before .before .before .before .before in
+    let asked = c .before .before .before .before .before .before .before .before .before .examine in
+    let table = day-tabled (a .file .now) (made .catalogue .result) (a .day) (a .rows) (made .catalogue .ensures) (omega (arith, start)) (listed .smaller .result)
+    (listed .smaller .ensures) (tabled .tabulate .last .1 .1 .1 .0) (tabled .tabulate .ensures .0) in (
+      made .catalogue .ensures,
+      sym (asked .ensures .0 .number (a .rows) (omega (arith, start)) table) ∙ passed .if1 .left,
+      record {
+        tabled = table;
+        workspace = asked .ensures .1;
+        events = asked .ensures .0 .events (passed .if1 .left);
+        held = asked .ensures .0 .held (a .rows) (omega (arith, start)) table;
+      },
+    )
 
 same-length-2 : tie.Need-same-length-2
 same-length-2 c = search needs
@@ -44,9 +106,18 @@ drop-booking-spec =
     tie.close
     (tie.spec
     catalogue-requires
+    smaller-requires
+    slice-aggregate-tabulate
+    tabulate-requires
+    slice-aggregate-examine
+    slice-aggregate-examine-2
+    slice-aggregate-examine-3
     examine-requires
     same-length
     returns
+    slice-aggregate-drop-checked
+    slice-aggregate-drop-checked-2
+    slice-aggregate-drop-checked-3
     drop-checked-requires
     same-length-2
     same-length-3

@@ -52,7 +52,7 @@ keep-requires c κs =
     let few = ready .few in
     let here = c .before .before .before .loop-test .taken in
     let playable = row-playable (a .file .now) (a .c) (a .day) (a .t4) ready (omega arith) (l .i) (omega arith) (c .stream-of .result) (c .stream-of .ensures) in
-    (omega (arith, here, l .inv .2, start .pre .1), playable .bounded)
+    (omega (arith, here, l .inv .2, start .pre .1), omega (arith, playable .bounded .ends))
 
 add-i : tie.Need-add-i Inv-loop μ-loop
 add-i c = search needs

@@ -1,6 +1,7 @@
--- `serving::serve_bytes` meets its contract. The invariant: the bytes passed are served (`Going`). The measure is what is left of the bytes. Assumes nothing.
+-- `serving::serve_bytes` meets its contract. The invariant: the bytes passed are served (`Going`), and what is kept between rounds is right
+-- for the session that they leave (`Known`). The measure is what is left of the bytes. Assumes nothing.
 use Prim.Native.Nat.{_+_, _-_, _≤_}
-use mathlib.Core.Path.{_≡_, refl, sym, _∙_, subst}
+use mathlib.Core.Path.{_≡_, refl, sym, _∙_}
 use native.Mathlib.Omega.{arith}
 use lib.ListN.{length, take}
 use borrow.Author.Tests.{not-true, not-false, leb-true, leb-false}
@@ -8,18 +9,20 @@ use borrow.Rule.Slice.PartMut.{midOf, putMid}
 use Rattle.laws.specs.Parts.{tail-length, tail-back}
 use Rattle.text.specs.Digits.{outputBytes}
 use Rattle.answering.specs.Contract.{sessionAt}
-use Rattle.answering.specs.Kept.{Ready}
+use Rattle.rounds.specs.Contract.{atRound, Known}
 use Rattle.serving.specs.Turns.{Going, going-first, turn-on, turn-count, turn-line, back-length, back-front}
 use Rattle.serving.proofs.serve_bytes.Statement.{statement}
 use Rattle.serving.proofs.serve_bytes.Tie as tie
 
 abbrev Inv-loop : tie.InvT-loop
-Inv-loop file c line₀ held bytes opens₀ reserves₀ helds₀ out₀ day₀ rows₀ kept₀ at₀ used₀ line opens reserves helds out day rows kept at used =
+Inv-loop file c line₀ held bytes opens₀ reserves₀ helds₀ out₀ day₀ rows₀ kept₀ at₀ used₀ table₀ ahead₀ words₀ from₀ to₀ line opens reserves helds out day rows kept at used table ahead words from to =
     (length line ≡ length line₀) × (length opens ≡ length opens₀) × (length reserves ≡ length reserves₀) × (length helds ≡ length helds₀) × (length out ≡ length out₀)
     × Going file c (sessionAt day₀ rows₀ opens₀ reserves₀ helds₀) (take held line₀) bytes line out opens reserves helds day rows kept at used
+    × (length table ≡ 2048) × (length ahead ≡ 8192) × (length words ≡ 256)
+    × Known file c day rows table ahead from to
 
 abbrev μ-loop : tie.MeasureT-loop
-μ-loop file c line₀ held bytes opens₀ reserves₀ helds₀ out₀ day₀ rows₀ kept₀ at₀ used₀ line opens reserves helds out day rows kept at used =
+μ-loop file c line₀ held bytes opens₀ reserves₀ helds₀ out₀ day₀ rows₀ kept₀ at₀ used₀ table₀ ahead₀ words₀ from₀ to₀ line opens reserves helds out day rows kept at used table ahead words from to =
     length bytes - at
 
 loop-holds : tie.Need-loop-holds Inv-loop μ-loop
@@ -32,6 +35,10 @@ loop-holds c =
       refl,
       refl,
       going-first (a .file .now) (a .c) (a .s .day) (a .s .rows) (a .opens .now) (a .reserves .now) (a .helds .now) (a .line .now) (a .held) (a .bytes .now) (a .out .now) (start .pre .few) (start .pre .ready),
+      refl,
+      refl,
+      refl,
+      record { looked = λ h. absurd (omega arith); tabled = λ h. absurd (omega arith) },
     )
 
 sub-if1 : tie.Need-sub-if1 Inv-loop μ-loop
@@ -40,8 +47,7 @@ sub-if1 c = c .before .loop .inv .5 .room
 next-line-requires : tie.Need-next-line-requires Inv-loop μ-loop
 next-line-requires c κs =
     let l = c .before .before .before .loop in
-    let start = c .before .before .before .before .before .before .before .before .before .before .before .before .before in
-    (l .inv .0 ∙ start .pre .places, l .inv .5 .few, c .before .before .loop-test .taken)
+    (l .inv .0 ∙ c .before .before .before .before .before .before .before .before .before .before .before .before .before .pre .places, l .inv .5 .few, c .before .before .loop-test .taken)
 
 loop-less : tie.Need-loop-less Inv-loop μ-loop
 loop-less c =
@@ -50,165 +56,234 @@ loop-less c =
 
 loop-again : tie.Need-loop-again Inv-loop μ-loop
 loop-again c =
-    let nl = c .before .before .before .before .next-line in
     let l = c .before .before .before .before .before .before .before .before .loop in
     let g = l .inv .5 in
-    let start = c .before .before .before .before .before .before .before .before .before .before .before .before .before .before .before .before .before .before in
-    let a = start .args in (
+    let a = c .before .before .before .before .before .before .before .before .before .before .before .before .before .before .before .before .before .before .args in
+    let nl = c .before .before .before .before .next-line in (
       nl .kept .0 ∙ l .inv .0,
       l .inv .1,
       l .inv .2,
       l .inv .3,
       l .inv .4,
       turn-on (a .file .now) (a .c) (sessionAt (a .s .day) (a .s .rows) (a .opens .now) (a .reserves .now) (a .helds .now)) (take (a .held) (a .line .now)) (a .bytes .now) (l .line) (l .out) (l .opens) (l .reserves) (l .helds) (l .day) (l .rows) (l .kept) (l .at) (l .used) g (nl .result) (nl .last .0) (nl .ensures) (not-true (nl .result .ended) (c .if2 .taken)),
+      l .inv .6,
+      l .inv .7,
+      l .inv .8,
+      l .inv .9,
     )
 
-sub-try-quiet : tie.Need-sub-try-quiet Inv-loop μ-loop
-sub-try-quiet c = let g = c .before .before .before .before .before .before .before .before .before .before .before .loop .inv .5 in omega (arith, g .room)
+slice-aggregate-try-ahead : tie.Need-slice-aggregate-try-ahead Inv-loop μ-loop
+slice-aggregate-try-ahead c = sym (c .before .before .before .before .before .before .before .before .before .loop .inv .6)
 
-part-try-quiet-start : tie.Need-part-try-quiet-start Inv-loop μ-loop
-part-try-quiet-start c = let g = c .before .before .before .before .before .before .before .before .before .before .before .loop .inv .5 in omega (arith, g .room)
+slice-aggregate-try-ahead-2 : tie.Need-slice-aggregate-try-ahead-2 Inv-loop μ-loop
+slice-aggregate-try-ahead-2 c = sym (c .before .before .before .before .before .before .before .before .before .before .loop .inv .7)
 
-part-try-quiet-end : tie.Need-part-try-quiet-end Inv-loop μ-loop
-part-try-quiet-end c = let g = c .before .before .before .before .before .before .before .before .before .before .before .loop .inv .5 in omega (arith, g .room)
+slice-aggregate-try-ahead-3 : tie.Need-slice-aggregate-try-ahead-3 Inv-loop μ-loop
+slice-aggregate-try-ahead-3 c = sym (c .before .before .before .before .before .before .before .before .before .before .before .loop .inv .8)
 
-try-quiet-requires : tie.Need-try-quiet-requires Inv-loop μ-loop
-try-quiet-requires c κs =
+sub-try-ahead : tie.Need-sub-try-ahead Inv-loop μ-loop
+sub-try-ahead c =
+    let l = c .before .before .before .before .before .before .before .before .before .before .before .loop in
+    let g = l .inv .5 in
+    let a = c .before .before .before .before .before .before .before .before .before .before .before .before .before .before .before .before .before .before .before .before .before .args in
+    omega (arith, g .room)
+
+part-try-ahead-start : tie.Need-part-try-ahead-start Inv-loop μ-loop
+part-try-ahead-start c =
+    let l = c .before .before .before .before .before .before .before .before .before .before .before .loop in
+    let g = l .inv .5 in
+    let a = c .before .before .before .before .before .before .before .before .before .before .before .before .before .before .before .before .before .before .before .before .before .args in
+    omega (arith, g .room)
+
+part-try-ahead-end : tie.Need-part-try-ahead-end Inv-loop μ-loop
+part-try-ahead-end c =
+    let l = c .before .before .before .before .before .before .before .before .before .before .before .loop in
+    let g = l .inv .5 in
+    let a = c .before .before .before .before .before .before .before .before .before .before .before .before .before .before .before .before .before .before .before .before .before .args in
+    omega (arith, g .room)
+
+try-ahead-requires : tie.Need-try-ahead-requires Inv-loop μ-loop
+try-ahead-requires c κs =
     let l = c .before .before .before .before .before .before .before .before .before .before .before .before .loop in
     let g = l .inv .5 in
+    let a = c .before .before .before .before .before .before .before .before .before .before .before .before .before .before .before .before .before .before .before .before .before .before .args in
     let left = leb-true outputBytes (length (l .out) - l .used) (c .before .before .before .before .before .before .before .before .before .before .if1 .taken) in
-    (omega (arith, left, tail-length (l .used) (l .out)), g .ready)
+    (omega (arith, left, tail-length (l .used) (l .out)), omega (arith, l .inv .8), l .inv .9 .looked)
 
 add-used : tie.Need-add-used Inv-loop μ-loop
 add-used c =
-    let tq = c .before .before .before .before .before .before .before .before .before .before .before .try-quiet in
-    let nl = c .before .before .before .before .before .before .before .before .before .before .before .before .before .before .before .before .before .before .before .before .next-line in
-    let l = c .before .before .before .before .before .before .before .before .before .before .before .before .before .before .before .before .before .before .before .before .before .before .before .before .loop in
+    let l = c .before .before .before .before .before .before .before .before .before .before .before .before .before .before .before .before .before .before .before .loop in
     let g = l .inv .5 in
-    let start = c .before .before .before .before .before .before .before .before .before .before .before .before .before .before .before .before .before .before .before .before .before .before .before .before .before .before .before .before .before .before .before .before .before .before in
-    let a = start .args in
-    let left = leb-true outputBytes (length (l .out) - l .used) (c .before .before .before .before .before .before .before .before .before .before .before .before .before .before .before .before .before .before .before .before .before .before .if1 .taken) in
+    let a = c .before .before .before .before .before .before .before .before .before .before .before .before .before .before .before .before .before .before .before .before .before .before .before .before .before .before .before .before .before .args in
+    let nl = c .before .before .before .before .before .before .before .before .before .before .before .before .before .before .before .next-line in
+    let tried = c .before .before .before .before .before .before .try-ahead in
+    let left = leb-true outputBytes (length (l .out) - l .used) (c .before .before .before .before .before .before .before .before .before .before .before .before .before .before .before .before .before .if1 .taken) in
     let part = midOf (l .used) (length (l .out) - l .used) (l .out) in
     let enough : outputBytes ≤ length part = omega (arith, left, tail-length (l .used) (l .out)) in
-    let few = turn-count (a .file .now) (a .c) (sessionAt (a .s .day) (a .s .rows) (a .opens .now) (a .reserves .now) (a .helds .now)) (take (a .held) (a .line .now)) (a .bytes .now) (l .line) (l .out) (l .opens) (l .reserves) (l .helds) (l .day) (l .rows) (l .kept) (l .at) (l .used) g (nl .result) (nl .last .0) (nl .ensures) (l .opens) (l .reserves) (l .helds) refl (l .out) refl part enough (tq .result .day) (l .rows) (tq .last .1 .1 .1 .1 .1 .0) (tq .last .1 .1 .1 .1 .1 .1 .0) (tq .last .1 .1 .1 .1 .1 .1 .1 .0) (tq .last .1 .1 .1 .1 .1 .1 .1 .1 .0) (tq .result .length) (tq .ensures .took (c .before .before .if3 .taken)) in
-    record { fits = omega (arith, few, left, g .room, l .inv .4, start .good) }
+    let answer = tried .last .1 .1 .1 .1 .1 .1 .1 .1 .0 in
+    let took = tried .ensures .took (c .before .if3 .taken) (a .c) (l .rows) (l .opens) (l .reserves) (l .helds) (g .ready) (l .inv .9 .tabled) in
+    let few = turn-count (a .file .now) (a .c) (sessionAt (a .s .day) (a .s .rows) (a .opens .now) (a .reserves .now) (a .helds .now)) (take (a .held) (a .line .now)) (a .bytes .now) (l .line) (l .out) (l .opens) (l .reserves) (l .helds) (l .day) (l .rows) (l .kept) (l .at) (l .used) g (nl .result) (nl .last .0) (nl .ensures)
+    (l .out) refl part enough (atRound (l .day) (tried .result .now)) (l .rows) (l .opens) (l .reserves) (l .helds) answer (tried .result .length) took in
+    record { fits = omega (arith, few, left, g .room, l .inv .4, c .before .before .before .before .before .before .before .before .before .before .before .before .before .before .before .before .before .before .before .before .before .before .before .before .before .before .before .before .before .good) }
 
 loop-less-2 : tie.Need-loop-less-2 Inv-loop μ-loop
 loop-less-2 c =
-    let took = c .before .before .before .before .before .before .before .before .before .before .before .before .before .before .before .before .before .before .before .before .next-line .ensures in
+    let took = c .before .before .before .before .before .before .before .before .before .before .before .before .before .before .before .next-line .ensures in
     omega (arith, took .moved, took .within)
 
 loop-again-2 : tie.Need-loop-again-2 Inv-loop μ-loop
 loop-again-2 c =
-    let tq = c .before .before .before .before .before .before .before .before .before .before .before .try-quiet in
-    let nl = c .before .before .before .before .before .before .before .before .before .before .before .before .before .before .before .before .before .before .before .before .next-line in
-    let l = c .before .before .before .before .before .before .before .before .before .before .before .before .before .before .before .before .before .before .before .before .before .before .before .before .loop in
+    let l = c .before .before .before .before .before .before .before .before .before .before .before .before .before .before .before .before .before .before .before .loop in
     let g = l .inv .5 in
-    let start = c .before .before .before .before .before .before .before .before .before .before .before .before .before .before .before .before .before .before .before .before .before .before .before .before .before .before .before .before .before .before .before .before .before .before in
-    let a = start .args in
-    let left = leb-true outputBytes (length (l .out) - l .used) (c .before .before .before .before .before .before .before .before .before .before .before .before .before .before .before .before .before .before .before .before .before .before .if1 .taken) in
+    let a = c .before .before .before .before .before .before .before .before .before .before .before .before .before .before .before .before .before .before .before .before .before .before .before .before .before .before .before .before .before .args in
+    let nl = c .before .before .before .before .before .before .before .before .before .before .before .before .before .before .before .next-line in
+    let tried = c .before .before .before .before .before .before .try-ahead in
+    let left = leb-true outputBytes (length (l .out) - l .used) (c .before .before .before .before .before .before .before .before .before .before .before .before .before .before .before .before .before .if1 .taken) in
     let part = midOf (l .used) (length (l .out) - l .used) (l .out) in
     let enough : outputBytes ≤ length part = omega (arith, left, tail-length (l .used) (l .out)) in
-    let out′ = putMid (l .used) (length (l .out) - l .used) (l .out) (tq .last .1 .1 .1 .1 .1 .1 .1 .1 .0) in
-    let long : length out′ ≡ length (l .out) = back-length (l .used) (l .out) (tq .last .1 .1 .1 .1 .1 .1 .1 .1 .0) (g .room) (tq .kept .1 .1 .1 .1 .1 .1 .1 .1 .0) in
-    let few = turn-count (a .file .now) (a .c) (sessionAt (a .s .day) (a .s .rows) (a .opens .now) (a .reserves .now) (a .helds .now)) (take (a .held) (a .line .now)) (a .bytes .now) (l .line) (l .out) (l .opens) (l .reserves) (l .helds) (l .day) (l .rows) (l .kept) (l .at) (l .used) g (nl .result) (nl .last .0) (nl .ensures) (l .opens) (l .reserves) (l .helds) refl (l .out) refl part enough (tq .result .day) (l .rows) (tq .last .1 .1 .1 .1 .1 .0) (tq .last .1 .1 .1 .1 .1 .1 .0) (tq .last .1 .1 .1 .1 .1 .1 .1 .0) (tq .last .1 .1 .1 .1 .1 .1 .1 .1 .0) (tq .result .length) (tq .ensures .took (c .before .before .if3 .taken)) in
-    let fits : l .used + tq .result .length ≤ length out′ = omega (arith, few, left, long, g .room) in (
+    let answer = tried .last .1 .1 .1 .1 .1 .1 .1 .1 .0 in
+    let took = tried .ensures .took (c .before .if3 .taken) (a .c) (l .rows) (l .opens) (l .reserves) (l .helds) (g .ready) (l .inv .9 .tabled) in
+    let out′ = putMid (l .used) (length (l .out) - l .used) (l .out) answer in
+    let long : length out′ ≡ length (l .out) = back-length (l .used) (l .out) answer (g .room) (tried .kept .1 .1 .1 .1 .1 .1 .1 .1 .0) in
+    let few = turn-count (a .file .now) (a .c) (sessionAt (a .s .day) (a .s .rows) (a .opens .now) (a .reserves .now) (a .helds .now)) (take (a .held) (a .line .now)) (a .bytes .now) (l .line) (l .out) (l .opens) (l .reserves) (l .helds) (l .day) (l .rows) (l .kept) (l .at) (l .used) g (nl .result) (nl .last .0) (nl .ensures)
+    (l .out) refl part enough (atRound (l .day) (tried .result .now)) (l .rows) (l .opens) (l .reserves) (l .helds) answer (tried .result .length) took in
+    let fits : l .used + tried .result .length ≤ length out′ = omega (arith, few, left, long, g .room) in (
       nl .kept .0 ∙ l .inv .0,
-      tq .kept .1 .1 .1 .1 .1 .0 ∙ l .inv .1,
-      tq .kept .1 .1 .1 .1 .1 .1 .0 ∙ l .inv .2,
-      tq .kept .1 .1 .1 .1 .1 .1 .1 .0 ∙ l .inv .3,
+      l .inv .1,
+      l .inv .2,
+      l .inv .3,
       long ∙ l .inv .4,
-      turn-line (a .file .now) (a .c) (sessionAt (a .s .day) (a .s .rows) (a .opens .now) (a .reserves .now) (a .helds .now)) (take (a .held) (a .line .now)) (a .bytes .now) (l .line) (l .out) (l .opens) (l .reserves) (l .helds) (l .day) (l .rows) (l .kept) (l .at) (l .used) g (nl .result) (nl .last .0) (nl .ensures) (l .opens) (l .reserves) (l .helds) refl (l .out) refl part enough (tq .result .day) (l .rows) (tq .last .1 .1 .1 .1 .1 .0) (tq .last .1 .1 .1 .1 .1 .1 .0) (tq .last .1 .1 .1 .1 .1 .1 .1 .0) (tq .last .1 .1 .1 .1 .1 .1 .1 .1 .0) (tq .result .length) (tq .ensures .took (c .before .before .if3 .taken)) (not-false (nl .result .ended) (c .before .before .before .before .before .before .before .before .before .before .before .before .before .before .before .before .if2 .left)) out′ (tail-back (l .used) (l .out) (tq .last .1 .1 .1 .1 .1 .1 .1 .1 .0)) fits,
+      turn-line (a .file .now) (a .c) (sessionAt (a .s .day) (a .s .rows) (a .opens .now) (a .reserves .now) (a .helds .now)) (take (a .held) (a .line .now)) (a .bytes .now) (l .line) (l .out) (l .opens) (l .reserves) (l .helds) (l .day) (l .rows) (l .kept) (l .at) (l .used) g (nl .result) (nl .last .0) (nl .ensures)
+          (l .out) refl part enough (atRound (l .day) (tried .result .now)) (l .rows) (l .opens) (l .reserves) (l .helds) answer (tried .result .length) took
+          (not-false (nl .result .ended) (c .before .before .before .before .before .before .before .before .before .before .before .if2 .left)) out′ (tail-back (l .used) (l .out) answer) fits,
+      l .inv .6,
+      l .inv .7,
+      tried .kept .1 .1 .1 .1 .1 .1 .1 .0 ∙ l .inv .8,
+      record { looked = l .inv .9 .looked; tabled = l .inv .9 .tabled },
     )
 
-sub-step-rows : tie.Need-sub-step-rows Inv-loop μ-loop
-sub-step-rows c =
-    let tq = c .before .before .before .before .before .before .before .before .before .before .before .before .try-quiet in
-    let l = c .before .before .before .before .before .before .before .before .before .before .before .before .before .before .before .before .before .before .before .before .before .before .before .before .before .loop in
+slice-aggregate-step-ahead : tie.Need-slice-aggregate-step-ahead Inv-loop μ-loop
+slice-aggregate-step-ahead c = sym (c .before .before .before .before .before .before .before .before .before .before .before .before .before .before .before .before .before .before .before .loop .inv .6)
+
+slice-aggregate-step-ahead-2 : tie.Need-slice-aggregate-step-ahead-2 Inv-loop μ-loop
+slice-aggregate-step-ahead-2 c = sym (c .before .before .before .before .before .before .before .before .before .before .before .before .before .before .before .before .before .before .before .before .loop .inv .7)
+
+slice-aggregate-step-ahead-3 : tie.Need-slice-aggregate-step-ahead-3 Inv-loop μ-loop
+slice-aggregate-step-ahead-3 c = sym (c .before .before .before .before .before .before .before .before .try-ahead .kept .1 .1 .1 .1 .1 .1 .1 .0 ∙ c .before .before .before .before .before .before .before .before .before .before .before .before .before .before .before .before .before .before .before .before .before .loop .inv .8)
+
+sub-step-ahead : tie.Need-sub-step-ahead Inv-loop μ-loop
+sub-step-ahead c =
+    let l = c .before .before .before .before .before .before .before .before .before .before .before .before .before .before .before .before .before .before .before .before .before .before .before .before .loop in
     let g = l .inv .5 in
-    let long = back-length (l .used) (l .out) (tq .last .1 .1 .1 .1 .1 .1 .1 .1 .0) (g .room) (tq .kept .1 .1 .1 .1 .1 .1 .1 .1 .0) in
+    let a = c .before .before .before .before .before .before .before .before .before .before .before .before .before .before .before .before .before .before .before .before .before .before .before .before .before .before .before .before .before .before .before .before .before .before .args in
+    let tried = c .before .before .before .before .before .before .before .before .before .before .before .try-ahead in
+    let back = tried .last .1 .1 .1 .1 .1 .1 .1 .1 .0 in
+    let out₁ = putMid (l .used) (length (l .out) - l .used) (l .out) back in
+    let long : length out₁ ≡ length (l .out) = back-length (l .used) (l .out) back (g .room) (tried .kept .1 .1 .1 .1 .1 .1 .1 .1 .0) in
     omega (arith, long, g .room)
 
-part-step-rows-start : tie.Need-part-step-rows-start Inv-loop μ-loop
-part-step-rows-start c =
-    let tq = c .before .before .before .before .before .before .before .before .before .before .before .before .try-quiet in
-    let l = c .before .before .before .before .before .before .before .before .before .before .before .before .before .before .before .before .before .before .before .before .before .before .before .before .before .loop in
+part-step-ahead-start : tie.Need-part-step-ahead-start Inv-loop μ-loop
+part-step-ahead-start c =
+    let l = c .before .before .before .before .before .before .before .before .before .before .before .before .before .before .before .before .before .before .before .before .before .before .before .before .loop in
     let g = l .inv .5 in
-    let long = back-length (l .used) (l .out) (tq .last .1 .1 .1 .1 .1 .1 .1 .1 .0) (g .room) (tq .kept .1 .1 .1 .1 .1 .1 .1 .1 .0) in
+    let a = c .before .before .before .before .before .before .before .before .before .before .before .before .before .before .before .before .before .before .before .before .before .before .before .before .before .before .before .before .before .before .before .before .before .before .args in
+    let tried = c .before .before .before .before .before .before .before .before .before .before .before .try-ahead in
+    let back = tried .last .1 .1 .1 .1 .1 .1 .1 .1 .0 in
+    let out₁ = putMid (l .used) (length (l .out) - l .used) (l .out) back in
+    let long : length out₁ ≡ length (l .out) = back-length (l .used) (l .out) back (g .room) (tried .kept .1 .1 .1 .1 .1 .1 .1 .1 .0) in
     omega (arith, long, g .room)
 
-part-step-rows-end : tie.Need-part-step-rows-end Inv-loop μ-loop
-part-step-rows-end c =
-    let tq = c .before .before .before .before .before .before .before .before .before .before .before .before .try-quiet in
-    let l = c .before .before .before .before .before .before .before .before .before .before .before .before .before .before .before .before .before .before .before .before .before .before .before .before .before .loop in
+part-step-ahead-end : tie.Need-part-step-ahead-end Inv-loop μ-loop
+part-step-ahead-end c =
+    let l = c .before .before .before .before .before .before .before .before .before .before .before .before .before .before .before .before .before .before .before .before .before .before .before .before .loop in
     let g = l .inv .5 in
-    let long = back-length (l .used) (l .out) (tq .last .1 .1 .1 .1 .1 .1 .1 .1 .0) (g .room) (tq .kept .1 .1 .1 .1 .1 .1 .1 .1 .0) in
+    let a = c .before .before .before .before .before .before .before .before .before .before .before .before .before .before .before .before .before .before .before .before .before .before .before .before .before .before .before .before .before .before .before .before .before .before .args in
+    let tried = c .before .before .before .before .before .before .before .before .before .before .before .try-ahead in
+    let back = tried .last .1 .1 .1 .1 .1 .1 .1 .1 .0 in
+    let out₁ = putMid (l .used) (length (l .out) - l .used) (l .out) back in
+    let long : length out₁ ≡ length (l .out) = back-length (l .used) (l .out) back (g .room) (tried .kept .1 .1 .1 .1 .1 .1 .1 .1 .0) in
     omega (arith, long, g .room)
 
-step-rows-requires : tie.Need-step-rows-requires Inv-loop μ-loop
-step-rows-requires c κs =
-    let tq = c .before .before .before .before .before .before .before .before .before .before .before .before .before .try-quiet in
-    let l = c .before .before .before .before .before .before .before .before .before .before .before .before .before .before .before .before .before .before .before .before .before .before .before .before .before .before .loop in
+step-ahead-requires : tie.Need-step-ahead-requires Inv-loop μ-loop
+step-ahead-requires c κs =
+    let l = c .before .before .before .before .before .before .before .before .before .before .before .before .before .before .before .before .before .before .before .before .before .before .before .before .before .loop in
     let g = l .inv .5 in
-    let start = c .before .before .before .before .before .before .before .before .before .before .before .before .before .before .before .before .before .before .before .before .before .before .before .before .before .before .before .before .before .before .before .before .before .before .before .before in
-    let a = start .args in
-    let left = leb-true outputBytes (length (l .out) - l .used) (c .before .before .before .before .before .before .before .before .before .before .before .before .before .before .before .before .before .before .before .before .before .before .before .before .if1 .taken) in
-    let same = tq .ensures .left (c .before .before .before .before .if3 .left) in
-    let out₁ = putMid (l .used) (length (l .out) - l .used) (l .out) (tq .last .1 .1 .1 .1 .1 .1 .1 .1 .0) in
-    let long : length out₁ ≡ length (l .out) = back-length (l .used) (l .out) (tq .last .1 .1 .1 .1 .1 .1 .1 .1 .0) (g .room) (tq .kept .1 .1 .1 .1 .1 .1 .1 .1 .0) in
+    let a = c .before .before .before .before .before .before .before .before .before .before .before .before .before .before .before .before .before .before .before .before .before .before .before .before .before .before .before .before .before .before .before .before .before .before .before .args in
+    let tried = c .before .before .before .before .before .before .before .before .before .before .before .before .try-ahead in
+    let left = leb-true outputBytes (length (l .out) - l .used) (c .before .before .before .before .before .before .before .before .before .before .before .before .before .before .before .before .before .before .before .before .before .before .before .if1 .taken) in
+    let back = tried .last .1 .1 .1 .1 .1 .1 .1 .1 .0 in
+    let out₁ = putMid (l .used) (length (l .out) - l .used) (l .out) back in
+    let long : length out₁ ≡ length (l .out) = back-length (l .used) (l .out) back (g .room) (tried .kept .1 .1 .1 .1 .1 .1 .1 .1 .0) in
     let part = midOf (l .used) (length out₁ - l .used) out₁ in
-    let enough : outputBytes ≤ length part = omega (arith, left, long, tail-length (l .used) out₁) in
-    (enough, subst (Ready (a .file .now) (a .c)) (sym same) (g .ready))
+    let enough : outputBytes ≤ length part = omega (arith, left, long, tail-length (l .used) out₁) in (
+      enough,
+      record {
+        for-table = omega (arith, l .inv .6);
+        for-words = omega (arith, tried .kept .1 .1 .1 .1 .1 .1 .1 .0, l .inv .8);
+      },
+      g .ready,
+    )
 
 add-used-2 : tie.Need-add-used-2 Inv-loop μ-loop
 add-used-2 c =
-    let sr = c .before .before .before .before .before .before .before .before .before .before .before .before .step-rows in
-    let tq = c .before .before .before .before .before .before .before .before .before .before .before .before .before .before .before .before .before .before .before .before .before .before .before .before .before .before .try-quiet in
-    let nl = c .before .before .before .before .before .before .before .before .before .before .before .before .before .before .before .before .before .before .before .before .before .before .before .before .before .before .before .before .before .before .before .before .before .before .before .next-line in
-    let l = c .before .before .before .before .before .before .before .before .before .before .before .before .before .before .before .before .before .before .before .before .before .before .before .before .before .before .before .before .before .before .before .before .before .before .before .before .before .before .before .loop in
+    let l = c .before .before .before .before .before .before .before .before .before .before .before .before .before .before .before .before .before .before .before .before .before .before .before .before .before .before .before .before .before .before .before .before .before .before .before .before .before .before .before .before .loop in
     let g = l .inv .5 in
-    let start = c .before .before .before .before .before .before .before .before .before .before .before .before .before .before .before .before .before .before .before .before .before .before .before .before .before .before .before .before .before .before .before .before .before .before .before .before .before .before .before .before .before .before .before .before .before .before .before .before .before in
-    let a = start .args in
-    let left = leb-true outputBytes (length (l .out) - l .used) (c .before .before .before .before .before .before .before .before .before .before .before .before .before .before .before .before .before .before .before .before .before .before .before .before .before .before .before .before .before .before .before .before .before .before .before .before .before .if1 .taken) in
-    let same = tq .ensures .left (c .before .before .before .before .before .before .before .before .before .before .before .before .before .before .before .before .before .if3 .left) in
-    let out₁ = putMid (l .used) (length (l .out) - l .used) (l .out) (tq .last .1 .1 .1 .1 .1 .1 .1 .1 .0) in
-    let long : length out₁ ≡ length (l .out) = back-length (l .used) (l .out) (tq .last .1 .1 .1 .1 .1 .1 .1 .1 .0) (g .room) (tq .kept .1 .1 .1 .1 .1 .1 .1 .1 .0) in
+    let a = c .before .before .before .before .before .before .before .before .before .before .before .before .before .before .before .before .before .before .before .before .before .before .before .before .before .before .before .before .before .before .before .before .before .before .before .before .before .before .before .before .before .before .before .before .before .before .before .before .before .before .args in
+    let nl = c .before .before .before .before .before .before .before .before .before .before .before .before .before .before .before .before .before .before .before .before .before .before .before .before .before .before .before .before .before .before .before .before .before .before .before .before .next-line in
+    let tried = c .before .before .before .before .before .before .before .before .before .before .before .before .before .before .before .before .before .before .before .before .before .before .before .before .before .before .before .try-ahead in
+    let left = leb-true outputBytes (length (l .out) - l .used) (c .before .before .before .before .before .before .before .before .before .before .before .before .before .before .before .before .before .before .before .before .before .before .before .before .before .before .before .before .before .before .before .before .before .before .before .before .before .before .if1 .taken) in
+    let back = tried .last .1 .1 .1 .1 .1 .1 .1 .1 .0 in
+    let out₁ = putMid (l .used) (length (l .out) - l .used) (l .out) back in
+    let long : length out₁ ≡ length (l .out) = back-length (l .used) (l .out) back (g .room) (tried .kept .1 .1 .1 .1 .1 .1 .1 .1 .0) in
     let part = midOf (l .used) (length out₁ - l .used) out₁ in
     let enough : outputBytes ≤ length part = omega (arith, left, long, tail-length (l .used) out₁) in
-    let few = turn-count (a .file .now) (a .c) (sessionAt (a .s .day) (a .s .rows) (a .opens .now) (a .reserves .now) (a .helds .now)) (take (a .held) (a .line .now)) (a .bytes .now) (l .line) (l .out) (l .opens) (l .reserves) (l .helds) (l .day) (l .rows) (l .kept) (l .at) (l .used) g (nl .result) (nl .last .0) (nl .ensures) (tq .last .1 .1 .1 .1 .1 .0) (tq .last .1 .1 .1 .1 .1 .1 .0) (tq .last .1 .1 .1 .1 .1 .1 .1 .0) same out₁ (back-front (l .used) (l .out) (tq .last .1 .1 .1 .1 .1 .1 .1 .1 .0) (g .room) (tq .kept .1 .1 .1 .1 .1 .1 .1 .1 .0)) part enough (sr .result .session .day) (sr .result .session .rows) (sr .last .1 .1 .1 .1 .1 .0) (sr .last .1 .1 .1 .1 .1 .1 .0) (sr .last .1 .1 .1 .1 .1 .1 .1 .0) (sr .last .1 .1 .1 .1 .1 .1 .1 .1 .0) (sr .result .length) (sr .ensures) in
-    record { fits = omega (arith, few, left, g .room, l .inv .4, start .good) }
+    let stepped = c .before .before .before .before .before .before .before .before .before .before .before .before .before .before .step-ahead in
+    let answer = stepped .last .1 .1 .1 .1 .1 .1 .1 .1 .1 .1 .1 .0 in
+    let few = turn-count (a .file .now) (a .c) (sessionAt (a .s .day) (a .s .rows) (a .opens .now) (a .reserves .now) (a .helds .now)) (take (a .held) (a .line .now)) (a .bytes .now) (l .line) (l .out) (l .opens) (l .reserves) (l .helds) (l .day) (l .rows) (l .kept) (l .at) (l .used) g (nl .result) (nl .last .0) (nl .ensures)
+    out₁ (back-front (l .used) (l .out) back (g .room) (tried .kept .1 .1 .1 .1 .1 .1 .1 .1 .0)) part enough (stepped .result .day) (stepped .result .rows)
+    (stepped .last .1 .1 .1 .1 .1 .1 .1 .1 .0) (stepped .last .1 .1 .1 .1 .1 .1 .1 .1 .1 .0) (stepped .last .1 .1 .1 .1 .1 .1 .1 .1 .1 .1 .0) answer (stepped .result .length) (stepped .ensures .step) in
+    record { fits = omega (arith, few, left, g .room, l .inv .4, c .before .before .before .before .before .before .before .before .before .before .before .before .before .before .before .before .before .before .before .before .before .before .before .before .before .before .before .before .before .before .before .before .before .before .before .before .before .before .before .before .before .before .before .before .before .before .before .before .before .before .good) }
 
 loop-less-3 : tie.Need-loop-less-3 Inv-loop μ-loop
 loop-less-3 c =
-    let took = c .before .before .before .before .before .before .before .before .before .before .before .before .before .before .before .before .before .before .before .before .before .before .before .before .before .before .before .before .before .before .before .before .before .before .before .next-line .ensures in
+    let took = c .before .before .before .before .before .before .before .before .before .before .before .before .before .before .before .before .before .before .before .before .before .before .before .before .before .before .before .before .before .before .before .before .before .before .before .before .next-line .ensures in
     omega (arith, took .moved, took .within)
 
 loop-again-3 : tie.Need-loop-again-3 Inv-loop μ-loop
 loop-again-3 c =
-    let sr = c .before .before .before .before .before .before .before .before .before .before .before .before .step-rows in
-    let tq = c .before .before .before .before .before .before .before .before .before .before .before .before .before .before .before .before .before .before .before .before .before .before .before .before .before .before .try-quiet in
-    let nl = c .before .before .before .before .before .before .before .before .before .before .before .before .before .before .before .before .before .before .before .before .before .before .before .before .before .before .before .before .before .before .before .before .before .before .before .next-line in
-    let l = c .before .before .before .before .before .before .before .before .before .before .before .before .before .before .before .before .before .before .before .before .before .before .before .before .before .before .before .before .before .before .before .before .before .before .before .before .before .before .before .loop in
+    let l = c .before .before .before .before .before .before .before .before .before .before .before .before .before .before .before .before .before .before .before .before .before .before .before .before .before .before .before .before .before .before .before .before .before .before .before .before .before .before .before .before .loop in
     let g = l .inv .5 in
-    let start = c .before .before .before .before .before .before .before .before .before .before .before .before .before .before .before .before .before .before .before .before .before .before .before .before .before .before .before .before .before .before .before .before .before .before .before .before .before .before .before .before .before .before .before .before .before .before .before .before .before in
-    let a = start .args in
-    let left = leb-true outputBytes (length (l .out) - l .used) (c .before .before .before .before .before .before .before .before .before .before .before .before .before .before .before .before .before .before .before .before .before .before .before .before .before .before .before .before .before .before .before .before .before .before .before .before .before .if1 .taken) in
-    let same = tq .ensures .left (c .before .before .before .before .before .before .before .before .before .before .before .before .before .before .before .before .before .if3 .left) in
-    let out₁ = putMid (l .used) (length (l .out) - l .used) (l .out) (tq .last .1 .1 .1 .1 .1 .1 .1 .1 .0) in
-    let long : length out₁ ≡ length (l .out) = back-length (l .used) (l .out) (tq .last .1 .1 .1 .1 .1 .1 .1 .1 .0) (g .room) (tq .kept .1 .1 .1 .1 .1 .1 .1 .1 .0) in
+    let a = c .before .before .before .before .before .before .before .before .before .before .before .before .before .before .before .before .before .before .before .before .before .before .before .before .before .before .before .before .before .before .before .before .before .before .before .before .before .before .before .before .before .before .before .before .before .before .before .before .before .before .args in
+    let nl = c .before .before .before .before .before .before .before .before .before .before .before .before .before .before .before .before .before .before .before .before .before .before .before .before .before .before .before .before .before .before .before .before .before .before .before .before .next-line in
+    let tried = c .before .before .before .before .before .before .before .before .before .before .before .before .before .before .before .before .before .before .before .before .before .before .before .before .before .before .before .try-ahead in
+    let left = leb-true outputBytes (length (l .out) - l .used) (c .before .before .before .before .before .before .before .before .before .before .before .before .before .before .before .before .before .before .before .before .before .before .before .before .before .before .before .before .before .before .before .before .before .before .before .before .before .before .if1 .taken) in
+    let back = tried .last .1 .1 .1 .1 .1 .1 .1 .1 .0 in
+    let out₁ = putMid (l .used) (length (l .out) - l .used) (l .out) back in
+    let long : length out₁ ≡ length (l .out) = back-length (l .used) (l .out) back (g .room) (tried .kept .1 .1 .1 .1 .1 .1 .1 .1 .0) in
     let part = midOf (l .used) (length out₁ - l .used) out₁ in
     let enough : outputBytes ≤ length part = omega (arith, left, long, tail-length (l .used) out₁) in
+    let stepped = c .before .before .before .before .before .before .before .before .before .before .before .before .before .before .step-ahead in
+    let answer = stepped .last .1 .1 .1 .1 .1 .1 .1 .1 .1 .1 .1 .0 in
     let room₁ : l .used ≤ length out₁ = omega (arith, long, g .room) in
-    let out′ = putMid (l .used) (length out₁ - l .used) out₁ (sr .last .1 .1 .1 .1 .1 .1 .1 .1 .0) in
-    let long′ : length out′ ≡ length out₁ = back-length (l .used) out₁ (sr .last .1 .1 .1 .1 .1 .1 .1 .1 .0) room₁ (sr .kept .1 .1 .1 .1 .1 .1 .1 .1 .0) in
-    let few = turn-count (a .file .now) (a .c) (sessionAt (a .s .day) (a .s .rows) (a .opens .now) (a .reserves .now) (a .helds .now)) (take (a .held) (a .line .now)) (a .bytes .now) (l .line) (l .out) (l .opens) (l .reserves) (l .helds) (l .day) (l .rows) (l .kept) (l .at) (l .used) g (nl .result) (nl .last .0) (nl .ensures) (tq .last .1 .1 .1 .1 .1 .0) (tq .last .1 .1 .1 .1 .1 .1 .0) (tq .last .1 .1 .1 .1 .1 .1 .1 .0) same out₁ (back-front (l .used) (l .out) (tq .last .1 .1 .1 .1 .1 .1 .1 .1 .0) (g .room) (tq .kept .1 .1 .1 .1 .1 .1 .1 .1 .0)) part enough (sr .result .session .day) (sr .result .session .rows) (sr .last .1 .1 .1 .1 .1 .0) (sr .last .1 .1 .1 .1 .1 .1 .0) (sr .last .1 .1 .1 .1 .1 .1 .1 .0) (sr .last .1 .1 .1 .1 .1 .1 .1 .1 .0) (sr .result .length) (sr .ensures) in
-    let fits : l .used + sr .result .length ≤ length out′ = omega (arith, few, left, long, long′, g .room) in (
+    let out′ = putMid (l .used) (length out₁ - l .used) out₁ answer in
+    let long′ : length out′ ≡ length out₁ = back-length (l .used) out₁ answer room₁ (stepped .kept .1 .1 .1 .1 .1 .1 .1 .1 .1 .1 .1 .0) in
+    let few = turn-count (a .file .now) (a .c) (sessionAt (a .s .day) (a .s .rows) (a .opens .now) (a .reserves .now) (a .helds .now)) (take (a .held) (a .line .now)) (a .bytes .now) (l .line) (l .out) (l .opens) (l .reserves) (l .helds) (l .day) (l .rows) (l .kept) (l .at) (l .used) g (nl .result) (nl .last .0) (nl .ensures)
+    out₁ (back-front (l .used) (l .out) back (g .room) (tried .kept .1 .1 .1 .1 .1 .1 .1 .1 .0)) part enough (stepped .result .day) (stepped .result .rows)
+    (stepped .last .1 .1 .1 .1 .1 .1 .1 .1 .0) (stepped .last .1 .1 .1 .1 .1 .1 .1 .1 .1 .0) (stepped .last .1 .1 .1 .1 .1 .1 .1 .1 .1 .1 .0) answer (stepped .result .length) (stepped .ensures .step) in
+    let fits : l .used + stepped .result .length ≤ length out′ = omega (arith, few, left, long, long′, g .room) in (
       nl .kept .0 ∙ l .inv .0,
-      sr .kept .1 .1 .1 .1 .1 .0 ∙ tq .kept .1 .1 .1 .1 .1 .0 ∙ l .inv .1,
-      sr .kept .1 .1 .1 .1 .1 .1 .0 ∙ tq .kept .1 .1 .1 .1 .1 .1 .0 ∙ l .inv .2,
-      sr .kept .1 .1 .1 .1 .1 .1 .1 .0 ∙ tq .kept .1 .1 .1 .1 .1 .1 .1 .0 ∙ l .inv .3,
+      stepped .kept .1 .1 .1 .1 .1 .1 .1 .1 .0 ∙ l .inv .1,
+      stepped .kept .1 .1 .1 .1 .1 .1 .1 .1 .1 .0 ∙ l .inv .2,
+      stepped .kept .1 .1 .1 .1 .1 .1 .1 .1 .1 .1 .0 ∙ l .inv .3,
       long′ ∙ long ∙ l .inv .4,
-      turn-line (a .file .now) (a .c) (sessionAt (a .s .day) (a .s .rows) (a .opens .now) (a .reserves .now) (a .helds .now)) (take (a .held) (a .line .now)) (a .bytes .now) (l .line) (l .out) (l .opens) (l .reserves) (l .helds) (l .day) (l .rows) (l .kept) (l .at) (l .used) g (nl .result) (nl .last .0) (nl .ensures) (tq .last .1 .1 .1 .1 .1 .0) (tq .last .1 .1 .1 .1 .1 .1 .0) (tq .last .1 .1 .1 .1 .1 .1 .1 .0) same out₁ (back-front (l .used) (l .out) (tq .last .1 .1 .1 .1 .1 .1 .1 .1 .0) (g .room) (tq .kept .1 .1 .1 .1 .1 .1 .1 .1 .0)) part enough (sr .result .session .day) (sr .result .session .rows) (sr .last .1 .1 .1 .1 .1 .0) (sr .last .1 .1 .1 .1 .1 .1 .0) (sr .last .1 .1 .1 .1 .1 .1 .1 .0) (sr .last .1 .1 .1 .1 .1 .1 .1 .1 .0) (sr .result .length) (sr .ensures) (not-false (nl .result .ended) (c .before .before .before .before .before .before .before .before .before .before .before .before .before .before .before .before .before .before .before .before .before .before .before .before .before .before .before .before .before .before .before .if2 .left)) out′ (tail-back (l .used) out₁ (sr .last .1 .1 .1 .1 .1 .1 .1 .1 .0)) fits,
+      turn-line (a .file .now) (a .c) (sessionAt (a .s .day) (a .s .rows) (a .opens .now) (a .reserves .now) (a .helds .now)) (take (a .held) (a .line .now)) (a .bytes .now) (l .line) (l .out) (l .opens) (l .reserves) (l .helds) (l .day) (l .rows) (l .kept) (l .at) (l .used) g (nl .result) (nl .last .0) (nl .ensures)
+          out₁ (back-front (l .used) (l .out) back (g .room) (tried .kept .1 .1 .1 .1 .1 .1 .1 .1 .0)) part enough (stepped .result .day) (stepped .result .rows)
+          (stepped .last .1 .1 .1 .1 .1 .1 .1 .1 .0) (stepped .last .1 .1 .1 .1 .1 .1 .1 .1 .1 .0) (stepped .last .1 .1 .1 .1 .1 .1 .1 .1 .1 .1 .0) answer (stepped .result .length) (stepped .ensures .step)
+          (not-false (nl .result .ended) (c .before .before .before .before .before .before .before .before .before .before .before .before .before .before .before .before .before .before .before .before .before .before .before .before .before .before .before .before .before .before .before .before .if2 .left)) out′ (tail-back (l .used) out₁ answer) fits,
+      stepped .kept .1 .1 .1 .1 .1 .0 ∙ l .inv .6,
+      stepped .kept .1 .1 .1 .1 .1 .1 .0 ∙ l .inv .7,
+      stepped .kept .1 .1 .1 .1 .1 .1 .1 .0 ∙ tried .kept .1 .1 .1 .1 .1 .1 .1 .0 ∙ l .inv .8,
+      stepped .ensures .known,
     )
 
 same-length : tie.Need-same-length Inv-loop μ-loop
@@ -230,8 +305,7 @@ returns : tie.Need-returns Inv-loop μ-loop
 returns c =
     let l = c .before .before .loop in
     let g = l .inv .5 in
-    let start = c .before .before .before .before .before .before .before .before .before .before .before .before in
-    let a = start .args in (
+    let start = c .before .before .before .before .before .before .before .before .before .before .before .before in (
       record { run = g .run; within = g .within; moved = λ r k. omega (arith, leb-false outputBytes (length (l .out) - l .used) (c .if1 .left), g .spent, l .inv .4) },
       record { ready = g .ready; places = l .inv .0 ∙ start .pre .places; few = g .few },
     )
@@ -255,8 +329,7 @@ returns-2 : tie.Need-returns-2 Inv-loop μ-loop
 returns-2 c =
     let l = c .before .loop in
     let g = l .inv .5 in
-    let start = c .before .before .before .before .before .before .before .before .before .before .before in
-    let a = start .args in (
+    let start = c .before .before .before .before .before .before .before .before .before .before .before in (
       record { run = g .run; within = g .within; moved = λ r k. omega (arith, c .loop-test .left) },
       record { ready = g .ready; places = l .inv .0 ∙ start .pre .places; few = g .few },
     )
@@ -272,17 +345,23 @@ serve-bytes-spec =
     next-line-requires
     loop-less
     loop-again
-    sub-try-quiet
-    part-try-quiet-start
-    part-try-quiet-end
-    try-quiet-requires
+    slice-aggregate-try-ahead
+    slice-aggregate-try-ahead-2
+    slice-aggregate-try-ahead-3
+    sub-try-ahead
+    part-try-ahead-start
+    part-try-ahead-end
+    try-ahead-requires
     add-used
     loop-less-2
     loop-again-2
-    sub-step-rows
-    part-step-rows-start
-    part-step-rows-end
-    step-rows-requires
+    slice-aggregate-step-ahead
+    slice-aggregate-step-ahead-2
+    slice-aggregate-step-ahead-3
+    sub-step-ahead
+    part-step-ahead-start
+    part-step-ahead-end
+    step-ahead-requires
     add-used-2
     loop-less-3
     loop-again-3

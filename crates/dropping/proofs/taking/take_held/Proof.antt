@@ -1,4 +1,4 @@
--- `dropping::taking::take_held` meets its contract. The profile is worked out into an array of zeros, and the list's part from the
+-- `dropping::taking::take_held` meets its contract. The profile is written to an array, and the list's part from the
 -- stream's start on is lent. Assumes nothing.
 use native.Mathlib.Omega.{arith}
 use Prim.Native.Nat.{_+_, _≤_}
@@ -17,11 +17,11 @@ short start = omega (arith, start .pre .0 .bounded .prefetch, start .pre .0 .sto
 add-n : tie.Need-add-n
 add-n c = search needs
 
-slice-aggregate-add-held : tie.Need-slice-aggregate-add-held
-slice-aggregate-add-held c = search needs
+slice-aggregate-write-profile : tie.Need-slice-aggregate-write-profile
+slice-aggregate-write-profile c = search needs
 
-add-held-requires : tie.Need-add-held-requires
-add-held-requires c κs =
+write-profile-requires : tie.Need-write-profile-requires
+write-profile-requires c κs =
     let start = c .before .before .before .before in
     let a = start .args in
     profile-asks (a .file .now) (a .x) (maxPrefetch + maxRounds) (start .pre .0) (short start)
@@ -46,10 +46,10 @@ take-shares-requires c κs =
     let added = c .before .before .before in
     let start = added .before .before .before .before .before in
     let a = start .args in
-    let profile = added .add-held .last .0 in (
+    let profile = added .write-profile .last .0 in (
       tail-fits (a .x .start) (lengthOf (a .x)) (a .helds .now) (omega arith),
-      profile-long (a .file .now) (a .x) (maxPrefetch + maxRounds) (start .pre .0) (short start) profile (added .add-held .ensures .0),
-      held-least (a .file .now) (a .x) (maxPrefetch + maxRounds) (start .pre .0) (short start) profile (added .add-held .ensures .0) (a .helds .now)
+      profile-long (a .file .now) (a .x) (maxPrefetch + maxRounds) (start .pre .0) (short start) profile (added .write-profile .ensures .0),
+      held-least (a .file .now) (a .x) (maxPrefetch + maxRounds) (start .pre .0) (short start) profile (added .write-profile .ensures .0) (a .helds .now)
           (start .pre .2),
     )
 
@@ -62,7 +62,7 @@ returns c =
     let added = taken .before .before .before .before in
     let start = added .before .before .before .before .before in
     let a = start .args in
-    held-back (a .file .now) (a .x) (maxPrefetch + maxRounds) (start .pre .0) (short start) (added .add-held .last .0) (added .add-held .ensures .0)
+    held-back (a .file .now) (a .x) (maxPrefetch + maxRounds) (start .pre .0) (short start) (added .write-profile .last .0) (added .write-profile .ensures .0)
     (a .helds .now) _ (taken .take-shares .ensures)
 
 pub take-held-spec : {M : Type 1} → statement M
@@ -70,8 +70,8 @@ take-held-spec =
     tie.close
     (tie.spec
     add-n
-    slice-aggregate-add-held
-    add-held-requires
+    slice-aggregate-write-profile
+    write-profile-requires
     mul-take-shares
     sub-take-shares
     part-take-shares-start

@@ -31,9 +31,6 @@ mul-name c = search needs
 shared-slice-read-name : tie.Need-shared-slice-read-name Inv-loop μ-loop
 shared-slice-read-name c = search needs
 
-cast-place : tie.Need-cast-place Inv-loop μ-loop
-cast-place c = omega (arith, c .shared-slice-known2 .given (c .before .before .loop .i))
-
 array-read-if1 : tie.Need-array-read-if1 Inv-loop μ-loop
 array-read-if1 c = search needs
 
@@ -100,7 +97,6 @@ all-differ-spec =
     loop-holds
     mul-name
     shared-slice-read-name
-    cast-place
     array-read-if1
     slice-aggregate-times-in
     times-in-requires

@@ -1,14 +1,14 @@
 -- `playing::report::line_of` meets its contract: a round of the stream, counted from its start. Assumes nothing.
 use mathlib.Core.Path.{ap}
+use Prim.Native.Nat.{ℕ}
 use borrow.Author.Needs.{needs}
-use Rattle.model.specs.declared.Booking.{Booking}
 use Rattle.model.specs.declared.Line.{Line}
 use Rattle.retrieval.specs.declared.Round.{Round}
 use Rattle.playing.proofs.report.line_of.Statement.{statement}
 use Rattle.playing.proofs.report.line_of.Tie as tie
 
-abbrev lined : Booking → Round → Line
-lined b r = record { name = b .name; read = r .read; send = r .send; held = r .held }
+abbrev lined : ℕ → Round → Line
+lined name r = record { name = name; read = r .read; send = r .send; held = r .held }
 
 sub-round-at : tie.Need-sub-round-at
 sub-round-at c = search needs
@@ -18,8 +18,8 @@ round-at-requires c κs = search needs
 
 returns : tie.Need-returns
 returns c =
-    let b = c .before .before .before .args .b in
-    ap (lined b) (c .round-at .ensures)
+    let name = c .before .before .before .args .name in
+    ap (lined name) (c .round-at .ensures)
 
 pub line-of-spec : {M : Type 1} → statement M
 line-of-spec = tie.close (tie.spec sub-round-at round-at-requires returns)

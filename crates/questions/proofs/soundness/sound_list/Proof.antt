@@ -1,76 +1,110 @@
--- `questions::soundness::sound_list` meets its contract: the bookings' streams are tied to them, so the tests of the streams are
--- the model's of the bookings. Assumes nothing.
+-- `questions::soundness::sound_list` meets its contract: the table's rows are tied to the bookings, so the tests of the rows are the
+-- model's of the bookings. Assumes nothing.
+use borrow.Author.Needs.{needs}
 use mathlib.Core.Path.{_≡_, refl, sym, ap, _∙_}
 use mathlib.Core.Bool.{true≢false}
-use mathlib.Core.List.{map}
 use native.Mathlib.Omega.{arith}
-use borrow.Author.Needs.{needs}
 use borrow.Author.Tests.{not-true, not-false}
 use lib.ListN.{take, length}
 use Rattle.films.specs.Catalogue.{catalogueOf}
-use Rattle.films.specs.declared.types.Catalogue.{Catalogue}
-use Rattle.load.specs.Streams.{streamsOf}
-use Rattle.questions.specs.ListSound.{list-sound, all-tied-taken, streams-playable}
+use Rattle.table.specs.Streams.{streams, streams-length}
 use Rattle.questions.specs.Given.{settingAt}
+use Rattle.questions.specs.Listed.{basic-each, listed-playable, table-tied, table-sound}
 use Rattle.questions.specs.SheetOf.{agrees-kept}
 use Rattle.questions.proofs.soundness.sound_list.Statement.{statement}
 use Rattle.questions.proofs.soundness.sound_list.Tie as tie
 
 names-differ-requires : tie.Need-names-differ-requires
-names-differ-requires c κs = search needs
+names-differ-requires c κs = let start = c .before .before .before .before .before in (start .pre .1, start .pre .3 .words)
+
+unsound-requires : tie.Need-unsound-requires
+unsound-requires c κs = search needs
 
 returns : tie.Need-returns
 returns c =
-    let start = c .before .before .before .before in
-    let a = start .args in
-    let xs = streamsOf (catalogueOf (a .file .now)) (a .count) (a .rows) in
-    let no = sym (c .before .names-differ .ensures) ∙ not-true _ (c .if1 .taken) in
-    (sym (list-sound (a .file .now) (a .day) (a .rows) (a .count) xs (start .pre .1) (start .pre .2) (omega arith) refl ∙ rw no), λ e. absurd (true≢false (sym e)))
-
-streams-of-requires : tie.Need-streams-of-requires
-streams-of-requires c κs = search needs
+    let start = c .before .before .before .before .before .before .before .before in
+    let a = start .args in (
+      record {
+        list = λ bs e w. c .unsound .ensures .0 ∙ sym (table-sound (a .file .now) (a .day) bs (a .table .now) (a .count) (start .pre .0) (start .pre .1) e w ∙ rw (sym (c .before .before .names-differ .ensures (catalogueOf (a .file .now)) bs e w) ∙ not-true _ (c .before .if1 .taken)));
+        held = λ bs e w z. absurd (true≢false (sym z ∙ c .unsound .ensures .1));
+        events = λ z. absurd (true≢false (sym z ∙ c .unsound .ensures .0));
+      },
+      start .pre .3,
+    )
 
 all-basic-requires : tie.Need-all-basic-requires
-all-basic-requires c κs = search needs
+all-basic-requires c κs = let start = c .before .before .before .before .before .before .before in (start .pre .1, start .pre .3 .words)
+
+unsound-requires-2 : tie.Need-unsound-requires-2
+unsound-requires-2 c κs = search needs
 
 returns-2 : tie.Need-returns-2
 returns-2 c =
-    let start = c .before .before .before .before .before .before .before in
+    let start = c .before .before .before .before .before .before .before .before .before .before in
     let a = start .args in
-    let made = c .before .before .streams-of in
-    let one = c .before .before .before in
-    let sound = list-sound (a .file .now) (a .day) (a .rows) (a .count) (made .result) (start .pre .1) (start .pre .2) (omega arith)
-    (made .ensures ∙ ap (λ (k : Catalogue). streamsOf k (a .count) (a .rows)) (start .pre .0)) in
-    let yes = sym (one .before .names-differ .ensures) ∙ not-false _ (one .if1 .left) in
-    let no = sym (c .before .all-basic .ensures) ∙ not-true _ (c .if2 .taken) in
-    (sym (sound ∙ rw (yes, no)), λ e. absurd (true≢false (sym e)))
+    let no = sym (c .before .before .all-basic .ensures) ∙ not-true _ (c .before .if2 .taken) in (
+      record {
+        list = λ bs e w. c .unsound2 .ensures .0 ∙ sym (table-sound (a .file .now) (a .day) bs (a .table .now) (a .count) (start .pre .0) (start .pre .1) e w ∙ rw (sym (c .before .before .before .before .names-differ .ensures (catalogueOf (a .file .now)) bs e w) ∙ not-false _ (c .before .before .before .if1 .left), no));
+        held = λ bs e w z. absurd (true≢false (sym z ∙ c .unsound2 .ensures .1));
+        events = λ z. absurd (true≢false (sym z ∙ c .unsound2 .ensures .0));
+      },
+      start .pre .3,
+    )
+
+gather-requires : tie.Need-gather-requires
+gather-requires c κs =
+    let start = c .before .before .before .before .before .before .before .before .before .before .before in
+    let a = start .args in
+    let passed = sym (c .before .before .before .all-basic .ensures) ∙ not-false _ (c .before .before .if2 .left) in
+    let each = basic-each (a .day .rounds) (a .count) (streams (a .table .now)) (omega (arith, streams-length (a .table .now), start .pre .1)) (start .pre .2) passed in
+    (start .pre .3 .words, start .pre .1, each .0, omega (arith, start .pre .1, start .pre .3 .opens), omega (arith, start .pre .1, start .pre .3 .closes))
 
 streams-sound-requires : tie.Need-streams-sound-requires
 streams-sound-requires c κs =
-    let start = c .before .before .before .before .before .before .before in
+    let start = c .before .before .before .before .before .before .before .before .before .before .before .before .before .before .before .before .before .before in
     let a = start .args in
-    let made = c .before .before .streams-of in
-    let passed = sym (c .before .all-basic .ensures) ∙ not-false _ (c .if2 .left) in
-    let good = streams-playable (a .file .now) (a .day) (a .rows) (a .count) (made .result) (start .pre .1) (start .pre .2) (omega arith)
-    (made .ensures ∙ ap (λ (k : Catalogue). streamsOf k (a .count) (a .rows)) (start .pre .0)) (start .pre .3) passed in
-    (start .pre .2, good .0, good .1)
+    let gathered = c .before .before .before .before .before .before .gather .ensures in
+    let passed = sym (c .before .before .before .before .before .before .before .before .before .before .all-basic .ensures) ∙ not-false _ (c .before .before .before .before .before .before .before .before .before .if2 .left) in
+    let each = basic-each (a .day .rounds) (a .count) (streams (a .table .now)) (omega (arith, streams-length (a .table .now), start .pre .1)) (start .pre .2) passed in (
+      start .pre .3 .words,
+      start .pre .1,
+      listed-playable (a .file .now) (a .count) (streams (a .table .now)) (start .pre .4) (each .0),
+      each .1,
+      gathered .0,
+      omega (arith, gathered .1, start .pre .1, start .pre .3 .opens),
+      omega (arith, gathered .2, start .pre .1, start .pre .3 .closes),
+    )
+
+same-length : tie.Need-same-length
+same-length c = search needs
+
+same-length-2 : tie.Need-same-length-2
+same-length-2 c = search needs
 
 returns-3 : tie.Need-returns-3
 returns-3 c =
-    let two = c .before in
-    let start = two .before .before .before .before .before .before .before in
+    let start = c .before .before .before .before .before .before .before .before .before .before .before .before .before .before .before .before .before .before .before in
     let a = start .args in
-    let made = two .before .before .streams-of in
-    let from = made .ensures ∙ ap (λ (k : Catalogue). streamsOf k (a .count) (a .rows)) (start .pre .0) in
-    let one = two .before .before .before in
-    let sound = list-sound (a .file .now) (a .day) (a .rows) (a .count) (made .result) (start .pre .1) (start .pre .2) (omega (arith, start)) from in
-    let yes = sym (one .before .names-differ .ensures) ∙ not-false _ (one .if1 .left) in
-    let passed = sym (two .before .all-basic .ensures) ∙ not-false _ (two .if2 .left) in
-    let tied = all-tied-taken (a .file .now) (a .day) (a .rows) (a .count) (made .result) (start .pre .1) (start .pre .2) (omega (arith, start)) from in (
-      sym (sound ∙ rw (yes, passed) (sym (c .streams-sound .ensures .0))),
-      λ e.
-          agrees-kept (settingAt (a .file .now) (a .day)) (a .file .now) (take (a .count) (a .rows)) (take (a .count) (made .result)) tied (a .helds .now)
-          (c .streams-sound .ensures .1 e),
+    let gathered = c .before .before .before .before .before .before .before .gather .ensures in
+    let sound = c .streams-sound .ensures in
+    let passed = sym (c .before .before .before .before .before .before .before .before .before .before .before .all-basic .ensures) ∙ not-false _ (c .before .before .before .before .before .before .before .before .before .before .if2 .left) in (
+      record {
+        list =
+            λ bs e w.
+            sym
+            (table-sound (a .file .now) (a .day) bs (a .table .now) (a .count) (start .pre .0) (start .pre .1) e w
+            ∙ rw (sym (c .before .before .before .before .before .before .before .before .before .before .before .before .before .names-differ .ensures (catalogueOf (a .file .now)) bs e w) ∙ not-false _ (c .before .before .before .before .before .before .before .before .before .before .before .before .if1 .left), passed) (sym (sound .0)));
+        held =
+            λ bs e w z.
+            agrees-kept (settingAt (a .file .now) (a .day)) (a .file .now) bs (take (a .count) (streams (a .table .now)))
+            (table-tied (a .file .now) (a .day) bs (a .table .now) (a .count) (start .pre .0) (start .pre .1) e w) (a .helds .now) (sound .1 z);
+        events = λ z. gathered .0;
+      },
+      record {
+        words = start .pre .3 .words;
+        opens = omega (arith, gathered .1, start .pre .3 .opens);
+        closes = omega (arith, gathered .2, start .pre .3 .closes);
+      },
     )
 
 pub sound-list-spec : {M : Type 1} → statement M
@@ -78,9 +112,13 @@ sound-list-spec =
     tie.close
     (tie.spec
     names-differ-requires
+    unsound-requires
     returns
-    streams-of-requires
     all-basic-requires
+    unsound-requires-2
     returns-2
+    gather-requires
     streams-sound-requires
+    same-length
+    same-length-2
     returns-3)

@@ -1,46 +1,55 @@
--- `search::cabs::fill` meets its contract. The invariant: the first m places tell what the streams before i tell. The measure is
--- what is left of the count. Assumes nothing.
-use Prim.Native.Nat.{_-_, _≤_}
-use mathlib.Core.Path.{_≡_}
+-- `search::cabs::fill` meets its contract. The invariant: the first m places tell what the rows before i tell. The measure is what is left
+-- of the count. Assumes nothing.
+use Prim.Native.Nat.{ℕ, _+_, _-_, _*_, _<_, _≤_}
+use mathlib.Core.Path.{_≡_, refl, sym, ap, _∙_}
 use native.Mathlib.Omega.{arith}
+use lib.ListN.{length, take, drop, getD, set}
 use borrow.Author.Needs.{needs}
-use lib.ListN.{length, getD, take, length-set}
-use Rattle.load.specs.Stream.{noStream}
-use Rattle.search.specs.CabLaws.{shares-most, ends-at, Columns, columns-none, columns-next}
+use mathlib.Core.Path.{_≡_, refl, sym, ap, _∙_}
+use lib.ListN.{length-set}
+use Rattle.limits.specs.Bounds.{maxBookings}
+use Rattle.load.specs.Stream.{noStream, endOf}
+use Rattle.load.specs.declared.stream.Stream.{Stream}
+use Rattle.table.specs.Streams.{streams, streams-length, streams-at}
+use Rattle.search.specs.CabLaws.{shares, shares-most, ends-at, Columns, columns-none, columns-next}
 use Rattle.search.proofs.cabs.fill.Statement.{statement}
 use Rattle.search.proofs.cabs.fill.Tie as tie
 
 abbrev Inv-loop : tie.InvT-loop
-Inv-loop count y shows₀ ends₀ xs m₀ i₀ shows ends m i =
-    (m ≤ i) × (i ≤ count) × (length shows ≡ length shows₀) × (length ends ≡ length ends₀) × (Columns (take i xs) y shows ends m)
+Inv-loop table count y shows₀ ends₀ m₀ i₀ shows ends m i = (m ≤ i) × (i ≤ count) × (length shows ≡ length shows₀) × (length ends ≡ length ends₀) × (Columns (take i (streams table)) y shows ends m)
 
 abbrev μ-loop : tie.MeasureT-loop
-μ-loop count y shows₀ ends₀ xs m₀ i₀ shows ends m i = count - i
+μ-loop table count y shows₀ ends₀ m₀ i₀ shows ends m i = count - i
 
 loop-holds : tie.Need-loop-holds Inv-loop μ-loop
 loop-holds c =
-    let a = c .before .before .args in
+    let a = c .before .before .before .args in
     (omega arith, omega arith, omega arith, omega arith, columns-none (a .y) (a .shows .now) (a .ends .now))
 
-mul-x : tie.Need-mul-x Inv-loop μ-loop
-mul-x c = search needs
-
-array-copy-out-x : tie.Need-array-copy-out-x Inv-loop μ-loop
-array-copy-out-x c = search needs
+stream-at-requires : tie.Need-stream-at-requires Inv-loop μ-loop
+stream-at-requires c κs = search needs
 
 add-first : tie.Need-add-first Inv-loop μ-loop
 add-first c =
-    let start = c .before .before .before .before .before .before in
+    let read = c .before in
+    let l = read .before .before .loop in
+    let start = read .before .before .before .before .before .before in
     let a = start .args in
-    let ends = ends-at (a .t1) (a .count) (c .before .before .before .loop .i) (start .pre .1) (omega arith) (omega arith) in
-    search needs
+    let x = read .stream-at .result in
+    let is : x ≡ _ = read .stream-at .ensures ∙ sym (streams-at (a .table .now) (l .i) (omega arith)) in
+    let ends = ends-at (streams (a .table .now)) (a .count) (l .i) (start .pre .2) (omega arith) (omega (arith, streams-length (a .table .now))) in
+    omega (arith, ends, ap endOf is)
 
 add-end : tie.Need-add-end Inv-loop μ-loop
 add-end c =
-    let start = c .before .before .before .before .before .before .before in
+    let read = c .before .before in
+    let l = read .before .before .loop in
+    let start = read .before .before .before .before .before .before in
     let a = start .args in
-    let ends = ends-at (a .t1) (a .count) (c .before .before .before .before .loop .i) (start .pre .1) (omega arith) (omega arith) in
-    search needs
+    let x = read .stream-at .result in
+    let is : x ≡ _ = read .stream-at .ensures ∙ sym (streams-at (a .table .now) (l .i) (omega arith)) in
+    let ends = ends-at (streams (a .table .now)) (a .count) (l .i) (start .pre .2) (omega arith) (omega (arith, streams-length (a .table .now))) in
+    omega (arith, ends, ap endOf is)
 
 mul-shows : tie.Need-mul-shows Inv-loop μ-loop
 mul-shows c = search needs
@@ -57,15 +66,9 @@ slice-write-ends c = search needs
 common-requires : tie.Need-common-requires Inv-loop μ-loop
 common-requires c κs = search needs
 
--- a stream has one place at most
-most : (c : tie.After-common Inv-loop μ-loop) → c .common .result ≤ 1
-most c =
-    let a = c .before .before .before .before .before .before .before .before .args in
-    rw (c .common .ensures) (shares-most (getD (a .t1) (c .before .before .before .before .before .loop .i) noStream) (a .y))
-
 add-m : tie.Need-add-m Inv-loop μ-loop
 add-m c =
-    let few = most c in
+    let few : c .common .result ≤ 1 = rw (c .common .ensures) (shares-most (c .before .before .before .stream-at .result) (c .before .before .before .before .before .before .before .before .before .args .y)) in
     search needs
 
 add-i : tie.Need-add-i Inv-loop μ-loop
@@ -76,13 +79,19 @@ loop-less c = search needs
 
 loop-again : tie.Need-loop-again Inv-loop μ-loop
 loop-again c =
-    let a = c .before .before .before .before .before .before .before .before .args in
-    let l = c .before .before .before .before .before .loop in (
-      omega (arith, most c),
+    let read = c .before .before .before in
+    let l = read .before .before .loop in
+    let start = read .before .before .before .before .before .before in
+    let a = start .args in
+    let x = read .stream-at .result in
+    let is : x ≡ _ = read .stream-at .ensures ∙ sym (streams-at (a .table .now) (l .i) (omega arith)) in
+    let few : c .common .result ≤ 1 = rw (c .common .ensures) (shares-most x (a .y)) in
+    let next = columns-next (streams (a .table .now)) (a .y) (l .shows) (l .ends) (l .i) (l .m) (omega (arith, streams-length (a .table .now))) (omega arith) (omega arith) (l .inv .4) in (
+      omega arith,
       omega arith,
       simp length-set (l .inv .2),
       simp length-set (l .inv .3),
-      rw (c .common .ensures) (columns-next (a .t1) (a .y) (l .shows) (l .ends) (l .i) (l .m) (omega arith) (omega arith) (omega arith) (l .inv .4)),
+      rw (c .common .ensures) (rw (← is) at next),
     )
 
 same-length : tie.Need-same-length Inv-loop μ-loop
@@ -93,7 +102,7 @@ same-length-2 c = search needs
 
 returns : tie.Need-returns Inv-loop μ-loop
 returns c =
-    let a = c .before .before .before .before .args in
+    let a = c .before .before .before .before .before .args in
     let l = c .before .loop in
     let all : l .i ≡ a .count = omega arith in
     (rw all at (l .inv .4), omega arith, l .inv .2, l .inv .3)
@@ -105,8 +114,7 @@ fill-spec =
     Inv-loop
     μ-loop
     loop-holds
-    mul-x
-    array-copy-out-x
+    stream-at-requires
     add-first
     add-end
     mul-shows

@@ -11,18 +11,19 @@ use Rattle.limits.specs.Bounds.{maxBookings}
 use Rattle.sheet.specs.Memory.{Agrees}
 use Rattle.sheet.specs.FillLaws.{Passed, passed-none, passed-skip, passed-no, passed-next, passed-all, zeros-at}
 use Rattle.sheet.specs.AgreeLaws.{agrees-none, agrees-more, agrees-skip}
+use Rattle.table.specs.Streams.{streams, streams-length}
 use Rattle.sheet.proofs.memory.held_within.Statement.{statement}
 use Rattle.sheet.proofs.memory.held_within.Tie as tie
 
 abbrev Inv-loop : tie.InvT-loop
-Inv-loop file xs count day-rounds memory helds starts ends carries₀ window₀ e₀ long same₀ carries window e same =
+Inv-loop file table count day-rounds memory helds starts ends carries₀ window₀ e₀ long same₀ carries window e same =
     (length window ≡ 4096)
-    × Passed file xs count day-rounds memory carries e
-    × (same ≡ true → Agrees file (take count xs) helds e day-rounds)
+    × Passed file (streams table) count day-rounds memory carries e
+    × (same ≡ true → Agrees file (take count (streams table)) helds e day-rounds)
     × (e ≤ day-rounds)
 
 abbrev μ-loop : tie.MeasureT-loop
-μ-loop file xs count day-rounds memory helds starts ends carries₀ window₀ e₀ long same₀ carries window e same = e
+μ-loop file table count day-rounds memory helds starts ends carries₀ window₀ e₀ long same₀ carries window e same = e
 
 slice-aggregate-spans : tie.Need-slice-aggregate-spans Inv-loop μ-loop
 slice-aggregate-spans c = search needs
@@ -31,7 +32,7 @@ slice-aggregate-spans-2 : tie.Need-slice-aggregate-spans-2 Inv-loop μ-loop
 slice-aggregate-spans-2 c = search needs
 
 spans-requires : tie.Need-spans-requires Inv-loop μ-loop
-spans-requires c κs = (search needs, λ i h. c .before .before .before .before .pre .1 i h .bounded, search needs, search needs)
+spans-requires c κs = (search needs, search needs, λ i h. c .before .before .before .before .before .pre .2 i h .bounded, search needs, search needs)
 
 slice-aggregate-open-until : tie.Need-slice-aggregate-open-until Inv-loop μ-loop
 slice-aggregate-open-until c = search needs
@@ -49,18 +50,18 @@ loop-holds : tie.Need-loop-holds Inv-loop μ-loop
 loop-holds c =
     let until = c .before in
     let spread = until .before .before .before .before .before in
-    let s = spread .before .before .before .before .before in
+    let s = spread .before .before .before .before .before .before in
     let a = s .args in
     let spans = spread .spans in
     let starts = spans .last .1 .1 .0 in
     let ends = spans .last .1 .1 .1 .0 in
-    let none = passed-none (a .file .now) (a .xs) (a .count) (a .day-rounds) (a .memory) (replicate maxBookings 0) (length-replicate maxBookings zero) (zeros-at maxBookings) (s .pre .2) in (
+    let none = passed-none (a .file .now) (streams (a .table .now)) (a .count) (a .day-rounds) (a .memory) (replicate maxBookings 0) (length-replicate maxBookings zero) (zeros-at maxBookings) (s .pre .3) in (
       length-replicate 4096 zero,
-      passed-skip (a .file .now) (a .xs) (a .count) (a .day-rounds) (a .memory) (replicate maxBookings 0) (a .day-rounds) none (until .open-until .result) starts ends (s .pre .1) (spans .ensures) (until .open-until .ensures .0),
+      passed-skip (a .file .now) (streams (a .table .now)) (a .count) (a .day-rounds) (a .memory) (replicate maxBookings 0) (a .day-rounds) none (until .open-until .result) starts ends (s .pre .2) (spans .ensures) (until .open-until .ensures .0),
       λ z.
           let empty = c .empty-places .ensures z in
-          agrees-skip (a .file .now) (a .xs) (a .count) (a .day-rounds) (until .open-until .result) (a .day-rounds) starts ends (a .helds .now) (s .pre .1) (spans .ensures)
-          (until .open-until .ensures .0) (agrees-none (a .file .now) (take (a .count) (a .xs)) (a .helds .now) (a .day-rounds) (leb-true _ _ (empty .0))) (empty .1),
+          agrees-skip (a .file .now) (streams (a .table .now)) (a .count) (a .day-rounds) (until .open-until .result) (a .day-rounds) starts ends (a .helds .now) (s .pre .2) (spans .ensures)
+          (until .open-until .ensures .0) (agrees-none (a .file .now) (take (a .count) (streams (a .table .now))) (a .helds .now) (a .day-rounds) (leb-true _ _ (empty .0))) (empty .1),
       until .open-until .ensures .1,
     )
 
@@ -101,17 +102,18 @@ window-kept-requires : tie.Need-window-kept-requires Inv-loop μ-loop
 window-kept-requires c κs =
     let looped = c .before .before .before .before .before .before .before in
     let spread = looped .before .before .before .before .before .before .before in
-    let s = spread .before .before .before .before .before in
+    let s = spread .before .before .before .before .before .before in
     let l = looped .loop in
     let n = l .e - c .before .before .open-from .result in (
+      s .pre .0,
       omega (arith, length-take n (l .window)),
       record {
-        few = s .pre .0;
-        streams = s .pre .1;
+        few = s .pre .1;
+        streams = s .pre .2;
         order = omega arith;
         places = omega (arith, length-replicate n zero);
         empty = zeros-at n;
-        size = omega (arith, l .inv .1 .size, s .pre .0);
+        size = omega (arith, l .inv .1 .size, s .pre .1);
         carried = l .inv .1 .carried;
       },
       λ z. omega (arith, l .inv .2 z .long, l .inv .3),
@@ -123,11 +125,11 @@ returns c =
     let from = windowed .before .before .before .open-from in
     let looped = windowed .before .before .before .before .before .before .before .before in
     let spread = looped .before .before .before .before .before .before .before in
-    let s = spread .before .before .before .before .before in
+    let s = spread .before .before .before .before .before .before in
     let a = s .args in
     let l = looped .loop in
     let kept = windowed .window-kept in (
-      sym (passed-no (a .file .now) (a .xs) (a .count) (a .day-rounds) (a .memory) (l .carries) (l .e) (l .inv .1) (from .result) (kept .last .1 .1 .1 .1 .1 .1 .0) (kept .result .kept) (kept .ensures .0) (not-true _ (c .if1 .taken))),
+      sym (passed-no (a .file .now) (streams (a .table .now)) (a .count) (a .day-rounds) (a .memory) (l .carries) (l .e) (l .inv .1) (from .result) (kept .last .1 .1 .1 .1 .1 .1 .0) (kept .result .kept) (kept .ensures .0) (not-true _ (c .if1 .taken))),
       λ e. absurd (true≢false (sym e)),
     )
 
@@ -159,7 +161,7 @@ loop-again c =
     let from = windowed .before .before .before .open-from in
     let looped = windowed .before .before .before .before .before .before .before .before in
     let spread = looped .before .before .before .before .before .before .before in
-    let s = spread .before .before .before .before .before in
+    let s = spread .before .before .before .before .before .before in
     let a = s .args in
     let spans = spread .spans in
     let starts = spans .last .1 .1 .0 in
@@ -168,17 +170,17 @@ loop-again c =
     let kept = windowed .window-kept in
     let back = until .before .before .before .before .before in
     let carries = kept .last .1 .1 .1 .1 .1 .1 .0 in
-    let next = passed-next (a .file .now) (a .xs) (a .count) (a .day-rounds) (a .memory) (l .carries) (l .e) (l .inv .1) (from .result) carries (kept .result .kept) (kept .ensures .0) (omega (arith, back, l .inv .1 .size)) (not-false _ (until .before .before .before .if1 .left)) in
+    let next = passed-next (a .file .now) (streams (a .table .now)) (a .count) (a .day-rounds) (a .memory) (l .carries) (l .e) (l .inv .1) (from .result) carries (kept .result .kept) (kept .ensures .0) (omega (arith, back, l .inv .1 .size)) (not-false _ (until .before .before .before .if1 .left)) in
     let n = l .e - from .result in
     let size = length-append (kept .last .1 .1 .1 .0) (drop n (l .window)) in (
       omega (arith, length-drop n (l .window), length-take n (l .window)),
-      passed-skip (a .file .now) (a .xs) (a .count) (a .day-rounds) (a .memory) carries (from .result) next (until .open-until2 .result) starts ends (s .pre .1) (spans .ensures) (until .open-until2 .ensures .0),
+      passed-skip (a .file .now) (streams (a .table .now)) (a .count) (a .day-rounds) (a .memory) carries (from .result) next (until .open-until2 .result) starts ends (s .pre .2) (spans .ensures) (until .open-until2 .ensures .0),
       λ z.
           let empty = c .empty-places2 .ensures z in
           let same = kept .ensures .1 (empty .0) in
-          agrees-skip (a .file .now) (a .xs) (a .count) (from .result) (until .open-until2 .result) (a .day-rounds) starts ends (a .helds .now) (s .pre .1) (spans .ensures)
+          agrees-skip (a .file .now) (streams (a .table .now)) (a .count) (from .result) (until .open-until2 .result) (a .day-rounds) starts ends (a .helds .now) (s .pre .2) (spans .ensures)
           (until .open-until2 .ensures .0)
-          (agrees-more (a .file .now) (take (a .count) (a .xs)) (a .helds .now) (from .result) (l .e) (a .day-rounds) (l .inv .2 (same .0)) (same .1)) (empty .1),
+          (agrees-more (a .file .now) (take (a .count) (streams (a .table .now))) (a .helds .now) (from .result) (l .e) (a .day-rounds) (l .inv .2 (same .0)) (same .1)) (empty .1),
       omega (arith, until .open-until2 .ensures .1, from .ensures .2, l .inv .3),
     )
 
@@ -189,12 +191,12 @@ returns-2 : tie.Need-returns-2 Inv-loop μ-loop
 returns-2 c =
     let looped = c .before .before in
     let spread = looped .before .before .before .before .before .before .before in
-    let s = spread .before .before .before .before .before in
+    let s = spread .before .before .before .before .before .before in
     let a = s .args in
     let l = looped .loop in
     let end : l .e ≡ 0 = omega arith in (
-      c .none-left .ensures ∙ passed-all (a .file .now) (a .xs) (a .count) (a .day-rounds) (a .memory) (l .carries) (l .e) (l .inv .1) (s .pre .0) (omega arith) end,
-      λ z. subst (λ (k : ℕ). Agrees (a .file .now) (take (a .count) (a .xs)) (a .helds .now) k (a .day-rounds)) end (l .inv .2 z),
+      c .none-left .ensures ∙ passed-all (a .file .now) (streams (a .table .now)) (a .count) (a .day-rounds) (a .memory) (l .carries) (l .e) (l .inv .1) (s .pre .1) (omega (arith, streams-length (a .table .now), s .pre .1)) end,
+      λ z. subst (λ (k : ℕ). Agrees (a .file .now) (take (a .count) (streams (a .table .now))) (a .helds .now) k (a .day-rounds)) end (l .inv .2 z),
     )
 
 pub held-within-spec : {M : Type 1} → statement M

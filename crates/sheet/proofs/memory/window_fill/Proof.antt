@@ -1,29 +1,32 @@
--- `sheet::memory::window_fill` meets its contract. The invariant: the streams before i were added, and the carries are those from w on of
--- them and from e on of the others. The measure is what is left of the streams. Assumes nothing.
-use Prim.Native.Nat.{_-_}
+-- `sheet::memory::window_fill` meets its contract. The invariant: the rows before i were added, and the carries are those from w on of
+-- them and from e on of the others. The measure is what is left of the rows. Assumes nothing.
+use Prim.Native.Nat.{ℕ, _+_, _-_, _*_, _<_, _≤_}
+use mathlib.Core.Path.{_≡_, refl, sym, ap, _∙_}
 use native.Mathlib.Omega.{arith}
+use lib.ListN.{length, take, drop, getD, set}
 use borrow.Author.Needs.{needs}
+use mathlib.Core.Path.{_≡_, refl, sym, ap, _∙_}
+use Rattle.limits.specs.Bounds.{maxBookings}
+use Rattle.load.specs.Stream.{noStream}
+use Rattle.table.specs.Streams.{streams, streams-length, streams-at, each-row}
 use Rattle.sheet.specs.FillLaws.{Filling, filling-none, filling-asks, filling-next, filling-all}
 use Rattle.sheet.proofs.memory.window_fill.Statement.{statement}
 use Rattle.sheet.proofs.memory.window_fill.Tie as tie
 
 abbrev Inv-loop : tie.InvT-loop
-Inv-loop file count window₀ w e carries₀ xs i₀ window carries i = Filling file xs count window₀ carries₀ w e window carries i
+Inv-loop file table count window₀ w e carries₀ i₀ window carries i = Filling file (streams table) count window₀ carries₀ w e window carries i
 
 abbrev μ-loop : tie.MeasureT-loop
-μ-loop file count window₀ w e carries₀ xs i₀ window carries i = count - i
+μ-loop file table count window₀ w e carries₀ i₀ window carries i = count - i
 
 loop-holds : tie.Need-loop-holds Inv-loop μ-loop
 loop-holds c =
-    let s = c .before .before .before in
+    let s = c .before .before .before .before in
     let a = s .args in
-    filling-none (a .file .now) (a .t2) (a .count) (a .window .now) (a .carries .now) (a .w) (a .e) (s .pre)
+    filling-none (a .file .now) (streams (a .table .now)) (a .count) (a .window .now) (a .carries .now) (a .w) (a .e) (s .pre .1)
 
-mul-x : tie.Need-mul-x Inv-loop μ-loop
-mul-x c = search needs
-
-array-copy-out-x : tie.Need-array-copy-out-x Inv-loop μ-loop
-array-copy-out-x c = search needs
+stream-at-requires : tie.Need-stream-at-requires Inv-loop μ-loop
+stream-at-requires c κs = search needs
 
 mul-c : tie.Need-mul-c Inv-loop μ-loop
 mul-c c = search needs
@@ -33,10 +36,12 @@ slice-read-c c = search needs
 
 window-add-requires : tie.Need-window-add-requires Inv-loop μ-loop
 window-add-requires c κs =
-    let s = c .before .before .before .before .before .before .before .before in
+    let read = c .before .before in
+    let l = read .before .before .loop in
+    let s = read .before .before .before .before .before .before .before in
     let a = s .args in
-    let l = c .before .before .before .before .loop in
-    filling-asks (a .file .now) (a .t2) (a .count) (a .window .now) (a .carries .now) (a .w) (a .e) (s .pre) (l .window) (l .carries) (l .i) (c .before .before .before .loop-test .taken) (l .inv)
+    let is = read .stream-at .ensures ∙ sym (streams-at (a .table .now) (l .i) (omega (arith, s .pre .1 .few))) in
+    rw is (filling-asks (a .file .now) (streams (a .table .now)) (a .count) (a .window .now) (a .carries .now) (a .w) (a .e) (s .pre .1) (l .window) (l .carries) (l .i) (read .before .loop-test .taken) (l .inv))
 
 mul-carries : tie.Need-mul-carries Inv-loop μ-loop
 mul-carries c = search needs
@@ -52,11 +57,13 @@ loop-less c = search needs
 
 loop-again : tie.Need-loop-again Inv-loop μ-loop
 loop-again c =
-    let s = c .before .before .before .before .before .before .before .before .before .before .before in
-    let a = s .args in
-    let l = c .before .before .before .before .before .before .before .loop in
     let add = c .before .before .window-add in
-    filling-next (a .file .now) (a .t2) (a .count) (a .window .now) (a .carries .now) (a .w) (a .e) (s .pre) (l .window) (l .carries) (l .i) (c .before .before .before .before .before .before .loop-test .taken) (l .inv) (add .last .1 .1 .0) (add .result) (omega arith) (add .ensures)
+    let read = c .before .before .before .before .before in
+    let l = read .before .before .loop in
+    let s = read .before .before .before .before .before .before .before in
+    let a = s .args in
+    let is = read .stream-at .ensures ∙ sym (streams-at (a .table .now) (l .i) (omega (arith, s .pre .1 .few))) in
+    filling-next (a .file .now) (streams (a .table .now)) (a .count) (a .window .now) (a .carries .now) (a .w) (a .e) (s .pre .1) (l .window) (l .carries) (l .i) (read .before .loop-test .taken) (l .inv) (add .last .1 .1 .0) (add .result) (omega (arith, streams-length (a .table .now), s .pre .1 .few)) (rw is at (add .ensures))
 
 same-length : tie.Need-same-length Inv-loop μ-loop
 same-length c = search needs
@@ -66,10 +73,10 @@ same-length-2 c = search needs
 
 returns : tie.Need-returns Inv-loop μ-loop
 returns c =
-    let s = c .before .before .before .before .before in
+    let s = c .before .before .before .before .before .before in
     let a = s .args in
     let l = c .before .loop in
-    filling-all (a .file .now) (a .t2) (a .count) (a .window .now) (a .carries .now) (a .w) (a .e) (s .pre) (l .window) (l .carries) (l .i) (omega arith) (l .inv)
+    filling-all (a .file .now) (streams (a .table .now)) (a .count) (a .window .now) (a .carries .now) (a .w) (a .e) (s .pre .1) (l .window) (l .carries) (l .i) (omega arith) (l .inv)
 
 pub window-fill-spec : {M : Type 1} → statement M
 window-fill-spec =
@@ -78,8 +85,7 @@ window-fill-spec =
     Inv-loop
     μ-loop
     loop-holds
-    mul-x
-    array-copy-out-x
+    stream-at-requires
     mul-c
     slice-read-c
     window-add-requires

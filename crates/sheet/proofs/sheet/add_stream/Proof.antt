@@ -34,7 +34,7 @@ add-to-requires : tie.Need-add-to-requires
 add-to-requires c κs =
     let start = c .before .before .before .before .before .before .before in
     let a = start .args in
-    raises-addable (a .file .now) (a .x) (a .day-rounds) (a .opens .now) (a .reserves .now) (a .helds .now) (start .pre)
+    raises-addable (a .x) (a .profile .now) (a .day-rounds) (a .opens .now) (a .reserves .now) (a .helds .now) (start .pre)
 
 same-length : tie.Need-same-length
 same-length c = search needs
@@ -50,7 +50,7 @@ returns c =
     let start = c .before .before .before .before .before .before .before .before .before .before .before .before .before .before in
     let a = start .args in
     let after = c .before .before .before .before .before .before .add-to .last in
-    raises-raised (a .file .now) (a .x) (a .day-rounds) (a .opens .now) (a .reserves .now) (a .helds .now) (start .pre) (after .1 .1 .0) (after .1 .1 .1 .0) (after .1 .1 .1 .1 .0) (c .before .before .before .before .before .before .add-to .ensures)
+    raises-raised (a .x) (a .profile .now) (a .day-rounds) (a .opens .now) (a .reserves .now) (a .helds .now) (start .pre) (after .1 .1 .0) (after .1 .1 .1 .0) (after .1 .1 .1 .1 .0) (c .before .before .before .before .before .before .add-to .ensures)
 
 pub add-stream-spec : {M : Type 1} → statement M
 add-stream-spec =

@@ -1,11 +1,19 @@
 -- `sheet::sheet::add_to` meets its contract. Each list's part from the stream's start on is lent. Assumes nothing.
-use native.Mathlib.Omega.{arith}
 use borrow.Author.Needs.{needs}
-use lib.ListN.{replicate}
+use mathlib.Core.Path.{_≡_, ap, _∙_}
+use mathlib.Core.List.{List}
+use Prim.Native.Nat.{ℕ, _-_}
+use native.Mathlib.Omega.{arith}
+use lib.ListN.{length, replicate, take}
+use lib.Seq.{take-all}
+use borrow.Rule.Slice.PartMut.{midOf}
 use Rattle.limits.specs.Bounds.{maxReserve}
+use Rattle.retrieval.specs.Sheet.{plus}
+use Rattle.retrieval.specs.SheetLaws.{room-largest}
+use Rattle.retrieval.specs.Stored.{maxHeld}
 use Rattle.load.specs.Stream.{lengthOf}
 use Rattle.sheet.specs.Parts.{addAt-back}
-use Rattle.sheet.specs.SheetLaws.{tail-fits, tail-below, tail-adds, tail-added}
+use Rattle.sheet.specs.SheetLaws.{tail-fits, tail-below}
 use Rattle.sheet.proofs.sheet.add_to.Statement.{statement}
 use Rattle.sheet.proofs.sheet.add_to.Tie as tie
 
@@ -50,25 +58,34 @@ add-each-requires-2 c κs =
     let a = start .args in
     let fits = tail-fits (a .x .start) (lengthOf (a .x)) (a .reserves .now) (omega arith) in
     let room = tail-below (a .x .start) maxReserve maxReserve (a .reserves .now) (omega arith) (start .pre .reserves-room) in
-    (omega arith, omega (arith, start .pre .stream .bounded .reserve))
+    (omega arith, omega (arith, start .pre .bounded .reserve))
 
-mul-add-held : tie.Need-mul-add-held
-mul-add-held c = search needs
+mul-add-profile : tie.Need-mul-add-profile
+mul-add-profile c = search needs
 
-sub-add-held : tie.Need-sub-add-held
-sub-add-held c = search needs
+sub-add-profile : tie.Need-sub-add-profile
+sub-add-profile c = search needs
 
-part-add-held-start : tie.Need-part-add-held-start
-part-add-held-start c = search needs
+part-add-profile-start : tie.Need-part-add-profile-start
+part-add-profile-start c = search needs
 
-part-add-held-end : tie.Need-part-add-held-end
-part-add-held-end c = search needs
+part-add-profile-end : tie.Need-part-add-profile-end
+part-add-profile-end c = search needs
 
-add-held-requires : tie.Need-add-held-requires
-add-held-requires c κs =
+add-profile-requires : tie.Need-add-profile-requires
+add-profile-requires c κs =
     let start = c .before .before .before .before .before .before .before .before .before .before .before .before .before .before in
     let a = start .args in
-    tail-adds (a .file .now) (a .x) (a .helds .now) (start .pre .stream) (start .pre .helds-places) (start .pre .helds-room)
+    let hs = a .profile .now in
+    let n = lengthOf (a .x) in
+    let whole : take n hs ≡ hs = take-all n hs (omega (arith, start .pre .rounds)) in
+    let part : List ℕ = midOf (a .x .start) (length (a .helds .now) - a .x .start) (a .helds .now) in (
+      tail-fits (a .x .start) n (a .helds .now) (omega (arith, start .pre .helds-places)),
+      omega (arith, start .pre .rounds),
+      rw whole
+          (room-largest part hs
+          (omega (arith, tail-below (a .x .start) maxHeld maxHeld (a .helds .now) (omega arith) (start .pre .helds-room), start .pre .most))),
+    )
 
 same-length : tie.Need-same-length
 same-length c = search needs
@@ -81,12 +98,20 @@ same-length-3 c = search needs
 
 returns : tie.Need-returns
 returns c =
-    let a = c .before .before .before .before .before .before .before .before .before .before .before .before .before .before .before .before .before .args in
+    let start = c .before .before .before .before .before .before .before .before .before .before .before .before .before .before .before .before .before in
+    let a = start .args in
     let x = a .x in
+    let hs = a .profile .now in
+    let whole : take (lengthOf x) hs ≡ hs = take-all (lengthOf x) hs (omega (arith, start .pre .rounds)) in
+    let opens = c .before .before .before .before .before .before .before .before .before .before .add-each in
+    let reserves = c .before .before .before .before .before .before .add-each2 in
+    let helds = c .before .before .add-profile in
     record {
-      films = addAt-back (x .start) (replicate (lengthOf x) 1) (a .opens .now) (c .before .before .before .before .before .before .before .before .before .before .add-each .last .0) (c .before .before .before .before .before .before .before .before .before .before .add-each .ensures);
-      reserved = addAt-back (x .start) (replicate (lengthOf x) (x .reserve)) (a .reserves .now) (c .before .before .before .before .before .before .add-each2 .last .0) (c .before .before .before .before .before .before .add-each2 .ensures);
-      held = tail-added (a .file .now) x (a .helds .now) (c .before .before .add-held .last .0) (c .before .before .add-held .ensures .0);
+      films = addAt-back (x .start) (replicate (lengthOf x) 1) (a .opens .now) (opens .last .0) (opens .ensures);
+      reserved = addAt-back (x .start) (replicate (lengthOf x) (x .reserve)) (a .reserves .now) (reserves .last .0) (reserves .ensures);
+      held =
+          addAt-back (x .start) hs (a .helds .now) (helds .last .0)
+          (helds .ensures ∙ ap (plus (midOf (x .start) (length (a .helds .now) - x .start) (a .helds .now))) whole);
     }
 
 pub add-to-spec : {M : Type 1} → statement M
@@ -104,11 +129,11 @@ add-to-spec =
     part-add-each-start-2
     part-add-each-end-2
     add-each-requires-2
-    mul-add-held
-    sub-add-held
-    part-add-held-start
-    part-add-held-end
-    add-held-requires
+    mul-add-profile
+    sub-add-profile
+    part-add-profile-start
+    part-add-profile-end
+    add-profile-requires
     same-length
     same-length-2
     same-length-3

@@ -1,0 +1,2 @@
+-- What the types of the parameters tell.
+pub mod Narrow

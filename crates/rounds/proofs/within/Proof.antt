@@ -1,0 +1,18 @@
+-- `rounds::within` meets its contract: each test that says no answers no. Assumes nothing.
+use mathlib.Core.Path.{sym}
+use mathlib.Core.Bool.{true≢false}
+use borrow.Author.Needs.{needs}
+use Rattle.rounds.proofs.within.Statement.{statement}
+use Rattle.rounds.proofs.within.Tie as tie
+
+returns : tie.Need-returns
+returns c = λ e. absurd (true≢false (sym e))
+
+returns-2 : tie.Need-returns-2
+returns-2 c = λ e. absurd (true≢false (sym e))
+
+returns-3 : tie.Need-returns-3
+returns-3 c = search needs
+
+pub within-spec : {M : Type 1} → statement M
+within-spec = tie.close (tie.spec returns returns-2 returns-3)
