@@ -18,7 +18,7 @@ ghost use Rattle.player.specs.Ahead.{mostAhead, Ahead, Looks, HeldBy, Ro
 pub const MOST_AHEAD: usize = 256;
 
 // words of all bookings of a day
-pub const AHEAD_WORDS: usize = 8192;
+pub const AHEAD_WORDS: usize = 6144;
 
 // The most rounds ahead for which `words` words take what n bookings hold, MOST_AHEAD at most.
 pub fn rounds_ahead(words: usize, n: usize) -> usize

@@ -22,7 +22,7 @@ Inv-loop file c places journal log₀ opens₀ reserves₀ helds₀ count verdic
     × TabledFor file today list table
     × (length table ≡ 2048)
     × (length active ≡ 2048)
-    × (length ahead ≡ 8192)
+    × (length ahead ≡ 6144)
 
 abbrev μ-loop : tie.MeasureT-loop
 μ-loop file c places journal log₀ opens₀ reserves₀ helds₀ count verdict table₀ active₀ ahead₀ today₀ list₀ at₀ i₀ log opens reserves helds table active ahead today list at i =

@@ -18,7 +18,7 @@ abbrev Inv-loop : tie.InvT-loop
 Inv-loop file c line₀ held bytes opens₀ reserves₀ helds₀ out₀ day₀ rows₀ kept₀ at₀ used₀ table₀ ahead₀ words₀ from₀ to₀ line opens reserves helds out day rows kept at used table ahead words from to =
     (length line ≡ length line₀) × (length opens ≡ length opens₀) × (length reserves ≡ length reserves₀) × (length helds ≡ length helds₀) × (length out ≡ length out₀)
     × Going file c (sessionAt day₀ rows₀ opens₀ reserves₀ helds₀) (take held line₀) bytes line out opens reserves helds day rows kept at used
-    × (length table ≡ 2048) × (length ahead ≡ 8192) × (length words ≡ 256)
+    × (length table ≡ 2048) × (length ahead ≡ 6144) × (length words ≡ 256)
     × Known file c day rows table ahead from to
 
 abbrev μ-loop : tie.MeasureT-loop
