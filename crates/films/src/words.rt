@@ -26,7 +26,7 @@ pub(crate) fn half_at(file: &[u8], at: usize) -> u16
 }
 
 // The 32 bits at an offset.
-pub(crate) fn word_at(file: &[u8], at: usize) -> u32
+pub fn word_at(file: &[u8], at: usize) -> u32
     requires { ⌜ at + 4 ≤ length (now file) ⌝ }
     ensures { λ r. ⌜ r ≡ size (now (file .entry)) at ⌝ }
 {

@@ -2,7 +2,7 @@
 use model::Answer;
 use model::Day;
 use questions::asked::opening_number;
-use sheet::clear::clear;
+use retrieval::clear::clear;
 ghost use mathlib.Core.List.{List};
 ghost use Prim.Native.Nat.{ℕ};
 ghost use Rattle.films.specs.Layout.{Film};

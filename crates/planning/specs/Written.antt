@@ -1,47 +1,45 @@
--- The just-in-time totals where they are written, from the last place backward. Assumes nothing.
-use mathlib.Core.Path.{_≡_, refl}
-use mathlib.Core.List.{List, [], _∷_}
+-- The just-in-time totals where they are written: what each round holds, and what was sent before it. Assumes nothing.
+use mathlib.Core.Path.{_≡_, refl, ap}
+use mathlib.Core.List.{List, [], _∷_, _++_}
 use Prim.Native.Nat.{ℕ, zero, suc, _+_, _-_, _*_, _≤_, _<_}
-use native.Mathlib.Nat.{not-suc-le-zero, mul-suc}
+use native.Mathlib.Nat.{not-suc-le-zero, le-of-suc-le-suc}
 use native.Mathlib.Omega.{arith}
 use lib.ListN.{length, getD, take, drop}
-use Rattle.limits.specs.Bounds.{maxSize}
-use Rattle.laws.specs.Sums.{sum, largest}
-use Rattle.films.specs.Sizes.{size, sizes, Stored}
+use Rattle.laws.specs.Sums.{sum}
+use Rattle.films.specs.Sizes.{Stored}
 use Rattle.retrieval.specs.Schedule.{sends, totals}
 use Rattle.retrieval.specs.JustInTime.{due, justInTime}
-use Rattle.retrieval.specs.Carry.{carry}
-use Rattle.retrieval.specs.CarryLaws.{due-carry, justInTime-at, prefetch}
-use Rattle.retrieval.specs.Pace.{sum-drop}
-use Rattle.retrieval.specs.Round.{totals-at}
-use Rattle.retrieval.specs.Sheet.{waiting}
-use Rattle.retrieval.specs.Stored.{sendsAt, InRange, maxHeld, length-sizes, largest-small, sends-shown}
+use Rattle.retrieval.specs.Carry.{carry, profile}
+use Rattle.retrieval.specs.CarryLaws.{due-carry}
+use Rattle.retrieval.specs.Sheet.{plus}
+use Rattle.retrieval.specs.SheetLaws.{onto-nil}
+use Rattle.retrieval.specs.Stored.{InRange, maxHeld}
 
 -- a list takes the p + n totals of a film
 pub record Writes (out s : List ℕ) (at n p b : ℕ) : Type 0 where
   pub film : InRange s at n p b
   pub places : p + n ≤ length out
 
--- ---- the size before place i is what the round before p + i sends
+-- what a film has sent before each of its rounds, C(t-1)
+abbrev pub sentBefore : List ℕ → List ℕ
+sentBefore xs = take (length xs) (0 ∷ totals 0 xs)
 
-pub shown-size : (s : List ℕ) (at n p i : ℕ) → 0 < i → i ≤ n → size s (at + 4 * (i - 1)) ≡ getD (sendsAt s at n p) ((p + i) - 1) 0
-shown-size s at n p i h l =
-    let e : ((p + i) - 1) - p ≡ i - 1 = omega arith in
-    rw e at (sends-shown s at n p ((p + i) - 1) (omega arith) (omega arith))
+pub length-totals : (c : ℕ) (xs : List ℕ) → length (totals c xs) ≡ length xs
+length-totals c [] = refl
+length-totals c (x ∷ xs) = ap suc (length-totals (c + x) xs)
+
+-- a list whose first p + n places are what a film holds
+pub record Holds (out s : List ℕ) (at n p : ℕ) : Type 0 where
+  pub stored : Stored s at n
+  pub places : p + n ≤ length out
+  pub small : (t : ℕ) → t < p + n → getD out t 0 ≤ maxHeld
 
 -- ---- sums
 
-pub sum-sends : (p : ℕ) (xs : List ℕ) → sum (sends p xs) ≡ sum xs
-sum-sends zero xs = refl
-sum-sends (suc p) xs = omega (arith, sum-sends p xs)
-
-pub sum-bound : (m : ℕ) (xs : List ℕ) → largest xs ≤ m → sum xs ≤ m * length xs
-sum-bound m [] h = omega arith
-sum-bound m (x ∷ xs) h = omega (arith, sum-bound m xs (omega arith), mul-suc m (length xs))
-
-pub total-small : (s : List ℕ) (at n : ℕ) → Stored s at n → sum (sizes s at n) ≤ maxHeld
-total-small s at n w =
-    omega (arith, w .few, sum-bound maxSize (sizes s at n) (largest-small s at n w), length-sizes s at n)
+sum-drop : (xs : List ℕ) (t : ℕ) → t < length xs → sum (drop t xs) ≡ getD xs t 0 + sum (drop (suc t) xs)
+sum-drop [] t h = absurd (not-suc-le-zero h)
+sum-drop (x ∷ xs) zero h = refl
+sum-drop (x ∷ xs) (suc t) h = sum-drop xs t (le-of-suc-le-suc h)
 
 -- a turn of a loop from k to k - 1 that adds
 pub turn-sum : (k x a : ℕ) (xs : List ℕ) → 0 < k → k ≤ length xs → a ≡ sum (drop k xs) → x ≡ getD xs (k - 1) 0
@@ -52,34 +50,23 @@ turn-sum (suc k) x a xs h l ea ex =
     let ex′ : x ≡ getD xs k 0 = rw e at ex in
     rw e (omega (arith, sum-drop xs k l))
 
--- ---- C by its place: C(k-1) stands at k behind C(-1)
+-- ---- what was sent before, added to what is held
 
-pub totals-sum : (c : ℕ) (xs : List ℕ) → getD (c ∷ totals c xs) (length xs) 0 ≡ c + sum xs
-totals-sum c [] = omega arith
-totals-sum c (x ∷ xs) = omega (arith, totals-sum (c + x) xs)
+-- A(t) is what is held in round t and C(t-1)
+pub totals-held : (b c : ℕ) (xs rest : List ℕ) → plus (profile b xs ++ rest) (take (length xs) (c ∷ totals c xs)) ≡ justInTime b c xs ++ rest
+totals-held b c [] rest = onto-nil (λ x h. x + h) rest
+totals-held b c (x ∷ xs) rest =
+    let e : x + carry b xs + c ≡ due b c x xs = omega (arith, due-carry b c x xs) in
+    rw (e, totals-held b (c + x) xs rest)
 
--- ---- a turn of a loop from k to k - 1, where C(k-1) is sent and x is what the round sends
+-- nothing is sent before the first round that shows
+pub none-sent : (p : ℕ) (xs s : List ℕ) → plus s (take p (0 ∷ totals 0 (sends p xs))) ≡ s
+none-sent zero xs s = onto-nil (λ x h. x + h) s
+none-sent (suc p) xs [] = refl
+none-sent (suc p) xs (x ∷ s) =
+    let e : x + 0 ≡ x = omega arith in
+    rw (e, none-sent p xs s)
 
-pub turn-sent : (k x sent : ℕ) (xs : List ℕ) → 0 < k → k ≤ length xs → sent ≡ getD (0 ∷ totals 0 xs) k 0 → x ≡ getD xs (k - 1) 0
-    → sent ≡ getD (0 ∷ totals 0 xs) (k - 1) 0 + x
-turn-sent zero x sent xs h l es ex = absurd (not-suc-le-zero h)
-turn-sent (suc k) x sent xs h l es ex =
-    let e : suc k - 1 ≡ k = omega arith in
-    let ex′ : x ≡ getD xs k 0 = rw e at ex in
-    rw e (omega (arith, totals-at 0 xs k l))
-
--- A(k-1) is C(k-1) and the carry of the rounds from k on
-pub turn-total : (b k sent c : ℕ) (xs : List ℕ) → 0 < k → k ≤ length xs → sent ≡ getD (0 ∷ totals 0 xs) k 0 → c ≡ carry b (drop k xs)
-    → sent + c ≡ getD (justInTime b 0 xs) (k - 1) 0
-turn-total b zero sent c xs h l es ec = absurd (not-suc-le-zero h)
-turn-total b (suc k) sent c xs h l es ec =
-    let e : suc k - 1 ≡ k = omega arith in
-    rw e (omega (arith, justInTime-at b 0 xs k l, totals-at 0 xs k l))
-
--- ---- the totals of the pre-fetch rounds, which send nothing
-
-pub ahead-totals : (b p : ℕ) (xs : List ℕ) → waiting b (carry b xs) p ≡ take p (justInTime b 0 (sends p xs))
-ahead-totals b zero xs = refl
-ahead-totals b (suc p) xs =
-    let e : carry b xs - p * b ≡ due b 0 0 (sends p xs) = omega (arith, due-carry b 0 0 (sends p xs), prefetch b p xs) in
-    rw (e, ahead-totals b p xs)
+pub none-before : (p : ℕ) (xs : List ℕ) → getD (0 ∷ totals 0 (sends p xs)) p 0 ≡ 0
+none-before zero xs = refl
+none-before (suc p) xs = none-before p xs

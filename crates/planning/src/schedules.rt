@@ -3,13 +3,11 @@ ghost use mathlib.Core.Path.{_≡_};
 ghost use mathlib.Core.List.{_++_};
 ghost use Prim.Native.Nat.{_+_};
 ghost use lib.ListN.{length, drop};
-ghost use Rattle.laws.specs.Sums.{sum};
 ghost use Rattle.films.specs.Sizes.{sizes, Stored};
 ghost use Rattle.retrieval.specs.JustInTime.{justInTime};
-ghost use Rattle.retrieval.specs.Carry.{carry};
 ghost use Rattle.retrieval.specs.Stored.{sendsAt};
-ghost use Rattle.retrieval.specs.SheetLaws.{ontoFrom};
-ghost use Rattle.planning.specs.Written.{Writes};
+ghost use Rattle.retrieval.specs.Sheet.{plus};
+ghost use Rattle.planning.specs.Written.{sentBefore, Holds, Writes};
 ghost use Rattle.planning.specs.Answers.{Planned, scheduled, scheduleOut};
 use films::catalogue::catalogue;
 use films::lookup::lookup;
@@ -22,10 +20,8 @@ use limits::refusals::NO_ROOM;
 use limits::refusals::NO_SCHEDULE;
 use limits::refusals::PREFETCH;
 use limits::refusals::RESERVE;
-use retrieval::Total;
-use retrieval::carry_before;
-use retrieval::film_total;
-use retrieval::write_waiting;
+use retrieval::exists;
+use retrieval::write_profile;
 
 // The answer of a call for a schedule: a refusal's number, or how many totals are written.
 pub enum Scheduled {
@@ -33,40 +29,29 @@ pub enum Scheduled {
     Written(u64),
 }
 
-// Writes the just-in-time totals of the rounds that show to their places, the last one first: of each round, what the film has
-// sent by its end and the carry of the rounds after it. Gives the carry of them all.
-fn write_shown(
-    out: &mut [u64],
-    file: &[u8],
-    at: usize,
-    n: usize,
-    p: usize,
-    b: u64,
-    total: u64,
-) -> u64
-    requires { ⌜ (Writes (now out) (now file) at n p b) × (total ≡ sum (sizes (now file) at n)) ⌝ }
-    ensures { λ r. ⌜ (now (out .exit) ≡ ontoFrom p (λ x a. a) (now (out .entry)) (justInTime b 0 (sendsAt (now (file .entry)) at n p))) × (r ≡ carry b (sizes (now (file .entry)) at n)) ⌝ }
+// Adds to each of a film's rounds in a list what the film has sent before it. The rounds before the first that shows have nothing
+// before them.
+fn add_sent(out: &mut [u64], file: &[u8], at: usize, n: usize, p: usize)
+    requires { ⌜ Holds (now out) (now file) at n p ⌝ }
+    ensures { λ _. ⌜ now (out .exit) ≡ plus (now (out .entry)) (sentBefore (sendsAt (now (file .entry)) at n p)) ⌝ }
 {
-    let mut sent = total;
-    let mut c: u64 = 0;
-    let mut i = n;
-    while 0 < i {
-        i -= 1;
-        out[p + i] = sent + c;
-        let x = size_at(file, at + 4 * i);
-        sent -= x;
-        c = carry_before(x, c, b);
+    let mut sent: u64 = 0;
+    let mut i = 0;
+    while i < n {
+        out[p + i] = out[p + i] + sent;
+        sent += size_at(file, at + 4 * i);
+        i += 1;
     }
-    c
 }
 
-// Writes the just-in-time totals of a film to the first p + n places of the list; a pre-fetch round's is what it holds.
-fn write_totals(out: &mut [u64], file: &[u8], at: usize, n: usize, p: usize, b: u64, total: u64)
-    requires { ⌜ (Writes (now out) (now file) at n p b) × (total ≡ sum (sizes (now file) at n)) ⌝ }
+// Writes the just-in-time totals of a film to the first p + n places of the list: of each round, what it holds and what was sent
+// before it.
+fn write_totals(out: &mut [u64], file: &[u8], at: usize, n: usize, p: usize, b: u64)
+    requires { ⌜ Writes (now out) (now file) at n p b ⌝ }
     ensures { λ _. ⌜ now (out .exit) ≡ justInTime b 0 (sendsAt (now (file .entry)) at n p) ++ drop (p + n) (now (out .entry)) ⌝ }
 {
-    let left = write_shown(out, file, at, n, p, b, total);
-    write_waiting(out, p, b, left);
+    write_profile(out, file, at, n, p, b);
+    add_sent(out, file, at, n, p);
 }
 
 // The answer for a film whose n sizes stand at an offset of the file. Nothing is written before the last question is put.
@@ -84,11 +69,10 @@ fn plan(file: &[u8], at: usize, n: usize, p: u64, b: u64, out: &mut [u64]) -> Sc
     if out.len() < ahead + n {
         return Scheduled::Refused(NO_ROOM);
     }
-    let total = film_total(file, at, n, ahead, b);
-    let Total::Bytes(bytes) = total else {
+    if !exists(file, at, n, ahead, b) {
         return Scheduled::Refused(NO_SCHEDULE);
-    };
-    write_totals(out, file, at, n, ahead, b, bytes);
+    }
+    write_totals(out, file, at, n, ahead, b);
     Scheduled::Written((ahead + n) as u64)
 }
 

@@ -1,7 +1,7 @@
 // What the bookings of a table hold in the rounds ahead, a row of words each: as many as the rounds ahead, at least.
 use load::stream::Stream;
 use retrieval::carry_from;
-use sheet::clear::clear;
+use retrieval::clear::clear;
 use sheet::memory::window_add;
 use table::rows::move_down;
 use table::streams::stream_at;

@@ -14,8 +14,8 @@ pub mod Laws
 pub mod CarryLaws
 pub mod Minimality
 pub mod ReserveLaws
-pub mod Pace
 pub mod SheetLaws
 pub mod Parts
+pub mod Shown
 pub mod Written
 pub mod Tests

@@ -128,7 +128,7 @@ room-parts k s hs r t = omega (arith, r t, parts-small k s hs t)
 
 -- ---- the two parts of a window, which meet at its first round that shows
 
-take-slice : (a m e : ℕ) (l : List ℕ) → a ≤ m → m ≤ e → take (m - a) (slice a e l) ≡ slice a m l
+pub take-slice : (a m e : ℕ) (l : List ℕ) → a ≤ m → m ≤ e → take (m - a) (slice a e l) ≡ slice a m l
 take-slice zero m e l h k = let d : m - 0 ≡ m = omega arith in rw d (take-take m e l k)
 take-slice (suc a) zero e l h k = absurd (not-suc-le-zero h)
 take-slice (suc a) (suc m) zero l h k = absurd (not-suc-le-zero k)

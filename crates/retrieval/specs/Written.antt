@@ -7,30 +7,21 @@ use native.Mathlib.Numerals.{add-one}
 use native.Mathlib.Omega.{arith}
 use borrow.Author.Tests.{eqb-true, eq-eqb}
 use lib.Dec.{eqb}
-use lib.ListN.{length, getD, set, take, drop, length-append, length-drop, List·getD-append}
-use lib.Seq.{take-at}
+use lib.ListN.{length, getD, set, take, drop, replicate, length-append, length-drop, length-replicate, List·getD-append}
+use lib.Seq.{take-at, drop-at}
 use Rattle.retrieval.specs.Tests.{same-test}
-use Rattle.retrieval.specs.Schedule.{sends}
 use Rattle.retrieval.specs.JustInTime.{existsBy}
 use Rattle.retrieval.specs.Carry.{carry, profile}
-use Rattle.retrieval.specs.CarryLaws.{prefetch}
 use Rattle.retrieval.specs.Minimality.{existsBy-carry}
-use Rattle.retrieval.specs.Stored.{sendsAt, length-sendsAt, length-profile}
-use Rattle.retrieval.specs.Sheet.{onto, heldIn, waiting}
-use Rattle.retrieval.specs.SheetLaws.{onto-nil, heldIn-whole}
+use Rattle.retrieval.specs.Stored.{sendsAt, InRange, length-sendsAt, length-profile}
+use Rattle.retrieval.specs.Sheet.{onto, plus, heldIn, Adds}
+use Rattle.retrieval.specs.SheetLaws.{onto-nil, heldIn-whole, adds-whole, room-more, largest-zeros}
 
 -- a schedule exists exactly if the rounds carry nothing
 pub exists-test : (b : ℕ) (xs : List ℕ) → eqb (carry b xs) 0 ≡ existsBy b xs
 exists-test b xs =
     let q = existsBy-carry b xs in
     same-test (eqb (carry b xs) 0) (existsBy b xs) (λ t. q .1 (eqb-true (carry b xs) 0 t)) (λ t. eq-eqb (carry b xs) 0 (q .0 t))
-
--- what the pre-fetch rounds hold
-pub held-ahead : (b p : ℕ) (xs : List ℕ) → waiting b (carry b xs) p ≡ take p (profile b (sends p xs))
-held-ahead b zero xs = refl
-held-ahead b (suc p) xs =
-    let q : 0 + carry b (sends p xs) ≡ carry b xs - p * b = omega (arith, prefetch b p xs) in
-    rw (q, held-ahead b p xs)
 
 -- ---- a list to whose first places a film's profile is written
 
@@ -51,6 +42,37 @@ module _ (s : List ℕ) (at n p b : ℕ) (before after : List ℕ) (wrote : afte
   pub written-length : p + n ≤ length before → length after ≡ length before
   written-length h =
       omega (arith, ap length wrote, length-append (profile b (sendsAt s at n p)) (drop (p + n) before), length-drop (p + n) before, profile-length)
+
+-- ---- a list of zeros to which a profile is added
+
+pub plus-zeros : (m : ℕ) (hs : List ℕ) → length hs ≡ m → plus (replicate m 0) hs ≡ hs
+plus-zeros zero [] l = refl
+plus-zeros zero (h ∷ hs) l = absurd (omega arith)
+plus-zeros (suc m) [] l = absurd (omega arith)
+plus-zeros (suc m) (h ∷ hs) l =
+    let z : 0 + h ≡ h = omega arith in
+    rw (z, plus-zeros m hs (omega arith))
+
+module _ (s : List ℕ) (at n p b : ℕ) (part zeroed : List ℕ) (cleared : zeroed ≡ replicate (p + n) 0 ++ drop (p + n) part) where
+  zeros : take (p + n) zeroed ≡ replicate (p + n) 0
+  zeros = rw cleared (take-at (replicate (p + n) 0) (drop (p + n) part) (p + n) (length-replicate (p + n) zero))
+
+  pub zeros-length : length (take (p + n) zeroed) ≡ p + n
+  zeros-length = ap length zeros ∙ length-replicate (p + n) zero
+
+  pub zeros-take : InRange s at n p b → Adds (take (p + n) zeroed) s at n p b 0 (p + n) 0
+  zeros-take r =
+      rw zeros
+      (adds-whole (replicate (p + n) 0) s at n p b r (omega (arith, length-replicate (p + n) zero))
+      (room-more 0 (replicate (p + n) 0) s at n p b 0 (p + n) (omega arith) (omega (arith, largest-zeros (p + n))) (r .stored)))
+
+  pub zeros-written : (after : List ℕ) → after ≡ plus (take (p + n) zeroed) (heldIn s at n p b 0 (p + n))
+      → after ++ drop (p + n) zeroed ≡ profile b (sendsAt s at n p) ++ drop (p + n) part
+  zeros-written after e =
+      let hs = profile b (sendsAt s at n p) in
+      let long : length hs ≡ p + n = length-profile b (sendsAt s at n p) ∙ length-sendsAt s at n p in
+      let rest : drop (p + n) zeroed ≡ drop (p + n) part = rw cleared (drop-at (replicate (p + n) 0) (drop (p + n) part) (p + n) (length-replicate (p + n) zero)) in
+      rw (e, zeros, heldIn-whole s at n p b, plus-zeros (p + n) hs long, rest)
 
 -- ---- a loop that lays from the first place forward
 

@@ -1,22 +1,25 @@
 // A film's just-in-time schedule, where its sizes stand in the file: whether there is one, its peak, what it holds, one round.
 // Each is one pass over the sizes, with no buffer. The film's n sizes stand at offset `at`, p is its pre-fetch rounds
 // and b its reserve in bytes per round; rounds are counted from its start.
+pub mod clear;
+pub mod shown;
+
 ghost use mathlib.Core.Path.{_≡_};
 ghost use mathlib.Core.List.{_++_};
 ghost use Prim.Native.Nat.{_+_, _-_, _*_, _^_, _≤_, _<_, min, max};
 ghost use lib.ListN.{length, getD, take, drop};
 ghost use Rattle.limits.specs.Bounds.{maxSize};
-ghost use Rattle.laws.specs.Sums.{sum};
 ghost use Rattle.films.specs.Sizes.{sizes, Stored};
 ghost use Rattle.retrieval.specs.Schedule.{peak};
 ghost use Rattle.retrieval.specs.JustInTime.{justInTime, existsBy};
 ghost use Rattle.retrieval.specs.Carry.{carry, profile};
-ghost use Rattle.retrieval.specs.Pace.{totalIf};
 ghost use Rattle.retrieval.specs.Stored.{sendsAt, InRange, maxHeld};
 ghost use Rattle.retrieval.specs.Sheet.{onto, plus, Room, heldIn, waiting, Adds};
-ghost use Rattle.retrieval.specs.SheetLaws.{ontoFrom, plusFrom};
 ghost use Rattle.retrieval.specs.Round.{roundOf};
+use clear::clear;
 use films::words::size_at;
+use shown::add_shown;
+use shown::carry_shown;
 use std::num::wrapping_add_u64;
 use std::num::wrapping_sub_u64;
 
@@ -28,12 +31,6 @@ pub struct Round {
     pub read: u64,
     pub send: u64,
     pub held: u64,
-}
-
-// A film's total in bytes, where a schedule exists.
-pub enum Total {
-    Bytes(u64),
-    NoSchedule,
 }
 
 // a less b, and 0 where b is more.
@@ -82,20 +79,6 @@ pub fn carry_before(x: u64, c: u64, b: u64) -> u64
     }
 }
 
-// The carry of the film's sizes from i on.
-fn carry_shown(file: &[u8], at: usize, n: usize, b: u64, i: usize) -> u64
-    requires { ⌜ (InRange (now file) at n 0 b) × (i ≤ n) ⌝ }
-    ensures { λ r. ⌜ (r ≡ carry b (drop i (sizes (now (file .entry)) at n))) × (r ≤ maxHeld) ⌝ }
-{
-    let mut c: u64 = 0;
-    let mut k = n;
-    while i < k {
-        k -= 1;
-        c = carry_before(size_at(file, at + 4 * k), c, b);
-    }
-    c
-}
-
 // The carry of the film's rounds from t on: what they leave to be read before round t.
 pub fn carry_from(file: &[u8], at: usize, n: usize, p: usize, b: u64, t: usize) -> u64
     requires { ⌜ (InRange (now file) at n p b) × (t ≤ p + n) ⌝ }
@@ -107,35 +90,12 @@ pub fn carry_from(file: &[u8], at: usize, n: usize, p: usize, b: u64, t: usize) 
     less(carry_shown(file, at, n, b, 0), ((p - t) as u64) * b)
 }
 
-// The film's total in bytes, if a schedule exists: if b for each round up to a size's is at least the sum of the sizes to it.
-pub fn film_total(file: &[u8], at: usize, n: usize, p: usize, b: u64) -> Total
-    requires { ⌜ InRange (now file) at n p b ⌝ }
-    ensures { λ r. ⌜ r ≡ totalIf (existsBy b (sendsAt (now (file .entry)) at n p)) (sum (sizes (now (file .entry)) at n)) ⌝ }
-{
-    let mut sent: u64 = 0;
-    let mut most = (p as u64) * b;
-    let mut i = 0;
-    while i < n {
-        sent += size_at(file, at + 4 * i);
-        most += b;
-        if most < sent {
-            return Total::NoSchedule;
-        }
-        i += 1;
-    }
-    Total::Bytes(sent)
-}
-
-// Does a schedule exist?
+// Does a schedule exist? It does exactly if the rounds leave nothing to be read before the first.
 pub fn exists(file: &[u8], at: usize, n: usize, p: usize, b: u64) -> bool
     requires { ⌜ InRange (now file) at n p b ⌝ }
     ensures { λ r. ⌜ r ≡ existsBy b (sendsAt (now (file .entry)) at n p) ⌝ }
 {
-    let total = film_total(file, at, n, p, b);
-    match total {
-        Total::Bytes(_) => true,
-        Total::NoSchedule => false,
-    }
+    carry_from(file, at, n, p, b, 0) == 0
 }
 
 // The peak: the most that the film holds in a round, in bytes. The pre-fetch rounds hold no more than the round after them.
@@ -165,36 +125,6 @@ fn first_shown(p: usize, a: usize, e: usize) -> usize
         return e;
     }
     if a < p { p } else { a }
-}
-
-// `add_held` of the rounds from m on, which show. One number counts the turns and the places of both lists.
-fn add_shown(
-    part: &mut [u64],
-    file: &[u8],
-    at: usize,
-    n: usize,
-    p: usize,
-    b: u64,
-    a: usize,
-    m: usize,
-    e: usize,
-    c: u64,
-) -> u64
-    requires { ⌜ (Adds (now part) (now file) at n p b a e c) × (m ≡ max a (min p e)) ⌝ }
-    ensures { λ r. ⌜ (now (part .exit) ≡ plusFrom (m - a) (now (part .entry)) (heldIn (now (file .entry)) at n p b a e)) × (r ≡ carry b (drop m (sendsAt (now (file .entry)) at n p))) ⌝ }
-{
-    let place = m - a;
-    let offset = at + 4 * (less(m as u64, p as u64) as usize);
-    let mut left = c;
-    let mut j = e - m;
-    while 0 < j {
-        j -= 1;
-        let x = size_at(file, offset + 4 * j);
-        let h = x + left;
-        part[place + j] = part[place + j] + h;
-        left = carry_before(x, left, b);
-    }
-    left
 }
 
 // Adds what m rounds that send nothing hold to the first m places of a lent list, where c is the carry of the rounds after
@@ -235,46 +165,15 @@ pub fn add_held(
     add_waiting(part, m - a, b, left)
 }
 
-// `write_profile` of the rounds that show. Gives the carry of them all.
-fn write_shown(part: &mut [u64], file: &[u8], at: usize, n: usize, p: usize, b: u64) -> u64
-    requires { ⌜ (InRange (now file) at n p b) × (p + n ≤ length (now part)) ⌝ }
-    ensures { λ r. ⌜ (now (part .exit) ≡ ontoFrom p (λ x h. h) (now (part .entry)) (profile b (sendsAt (now (file .entry)) at n p))) × (r ≡ carry b (sizes (now (file .entry)) at n)) ⌝ }
-{
-    let mut left: u64 = 0;
-    let mut j = n;
-    while 0 < j {
-        j -= 1;
-        let x = size_at(file, at + 4 * j);
-        part[p + j] = x + left;
-        left = carry_before(x, left, b);
-    }
-    left
-}
-
-// Writes what m rounds that send nothing hold to the first m places of a lent list, where c is the carry of the rounds after
-// them. Gives the carry before them.
-pub fn write_waiting(part: &mut [u64], m: usize, b: u64, c: u64) -> u64
-    requires { ⌜ m ≤ length (now part) ⌝ }
-    ensures { λ r. ⌜ (now (part .exit) ≡ onto (λ x h. h) (now (part .entry)) (waiting b c m)) × (r ≡ c - m * b) ⌝ }
-{
-    let mut left = c;
-    let mut k = m;
-    while 0 < k {
-        k -= 1;
-        part[k] = left;
-        left = less(left, b);
-    }
-    left
-}
-
 // Writes what the film holds in each of its p + n rounds to the first places of a lent list, whatever stood there. Does a
 // schedule exist?
 pub fn write_profile(part: &mut [u64], file: &[u8], at: usize, n: usize, p: usize, b: u64) -> bool
     requires { ⌜ (InRange (now file) at n p b) × (p + n ≤ length (now part)) ⌝ }
     ensures { λ r. ⌜ (now (part .exit) ≡ profile b (sendsAt (now (file .entry)) at n p) ++ drop (p + n) (now (part .entry))) × (r ≡ existsBy b (sendsAt (now (file .entry)) at n p)) ⌝ }
 {
-    let left = write_shown(part, file, at, n, p, b);
-    write_waiting(part, p, b, left) == 0
+    let rounds = p + n;
+    clear(part, rounds);
+    add_held(&mut part[..rounds], file, at, n, p, b, 0, rounds, 0) == 0
 }
 
 // Adds the first n numbers of a profile to the first n places of a lent list.

@@ -1,8 +1,9 @@
 // Memory's side of a day, tested in windows of rounds from the last to the first, so that no list by round is needed. A
 // stream's carry goes from window to window. Rounds in which nothing is open are in no window.
-use crate::clear::clear;
 use limits::bounds::MAX_BOOKINGS;
 use load::stream::Stream;
+use retrieval::clear::clear;
+use std::num::wrapping_sub_u64;
 use table::streams::stream_at;
 ghost use mathlib.Core.Path.{_≡_};
 ghost use mathlib.Core.Bool.{true, _&&_};
@@ -167,15 +168,15 @@ fn window_within(window: &[u64], n: usize, memory: u64) -> bool
     true
 }
 
-// 0 if two numbers are the same, and 1 if they differ.
-fn differs(a: u64, b: u64) -> u64
-    ensures { λ r. ⌜ (r ≤ 1) × (r ≡ 0 → a ≡ b) ⌝ }
+// 0 only if two numbers are the same.
+fn difference(a: u64, b: u64) -> u64
+    ensures { λ r. ⌜ (r ≡ 0 → a ≡ b) ⌝ }
 {
-    if a == b { 0 } else { 1 }
+    wrapping_sub_u64(a, b)
 }
 
-// Whether the n places of a list from w on are the first n of a window; not asked unless `asked`. The differences are counted,
-// so that there is no branch from place to place.
+// Whether the n places of a list from w on are the first n of a window; not asked unless `asked`. The differences are joined, so
+// that there is no test from place to place.
 fn same_places(asked: bool, list: &[u64], w: usize, window: &[u64], n: usize) -> bool
     requires { ⌜ ((asked ≡ true → w + n ≤ length (now list)) × (n ≤ length (now window))) ⌝ }
     ensures { λ r. ⌜ (r ≡ true → (asked ≡ true) × ((k : ℕ) → k < n → getD (now (list .entry)) (w + k) 0 ≡ getD (now (window .entry)) k 0)) ⌝ }
@@ -183,13 +184,13 @@ fn same_places(asked: bool, list: &[u64], w: usize, window: &[u64], n: usize) ->
     if !asked {
         return false;
     }
-    let mut count: u64 = 0;
+    let mut joined: u64 = 0;
     let mut i = 0;
     while i < n {
-        count = count + differs(list[w + i], window[i]);
+        joined = joined | difference(list[w + i], window[i]);
         i += 1;
     }
-    count == 0
+    joined == 0
 }
 
 // Whether the places of a list from a to e - 1 are 0; not asked unless `asked`.
@@ -200,13 +201,13 @@ fn empty_places(asked: bool, list: &[u64], a: usize, e: usize) -> bool
     if !asked {
         return false;
     }
-    let mut count: u64 = 0;
+    let mut joined: u64 = 0;
     let mut t = a;
     while t < e {
-        count = count + differs(list[t], 0);
+        joined = joined | list[t];
         t += 1;
     }
-    count == 0
+    joined == 0
 }
 
 // Whether the rounds from w to e - 1 keep the memory limit, tested in a list of as many places, and whether `helds` has what

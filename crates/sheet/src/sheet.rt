@@ -1,6 +1,6 @@
 // The day sheet: films open, sum of reserves and sum of bytes held, by round.
-use crate::clear::clear;
 use load::stream::Stream;
+use retrieval::clear::clear;
 use table::streams::stream_at;
 ghost use mathlib.Core.Path.{_≡_};
 ghost use Prim.Native.Nat.{_≤_};

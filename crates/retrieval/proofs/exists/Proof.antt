@@ -1,36 +1,20 @@
--- `retrieval::exists` meets its contract: there is a total exactly if a schedule exists. Assumes nothing.
-use mathlib.Core.Path.{sym}
+-- `retrieval::exists` meets its contract: a schedule exists exactly if the film's rounds leave nothing. Assumes nothing.
+use mathlib.Core.Path.{ap, _∙_}
+use Prim.Native.Nat.{ℕ}
 use borrow.Author.Needs.{needs}
-use Rattle.laws.specs.Sums.{sum}
-use Rattle.films.specs.Sizes.{sizes}
-use Rattle.retrieval.specs.JustInTime.{existsBy}
+use lib.Dec.{eqb}
 use Rattle.retrieval.specs.Stored.{sendsAt}
-use Rattle.retrieval.specs.Pace.{total-bytes, total-none}
+use Rattle.retrieval.specs.Written.{exists-test}
 use Rattle.retrieval.proofs.exists.Statement.{statement}
 use Rattle.retrieval.proofs.exists.Tie as tie
 
-film-total-requires : tie.Need-film-total-requires
-film-total-requires c κs = search needs
-
-enum-told : tie.Need-enum-told
-enum-told c = search needs
-
-enum-told-2 : tie.Need-enum-told-2
-enum-told-2 c = search needs
+carry-from-requires : tie.Need-carry-from-requires
+carry-from-requires c κs = search needs
 
 returns : tie.Need-returns
 returns c =
-    let a = c .before .before .before .before .args in
-    let total = c .before .before .film-total in
-    let s = a .file .now in
-    sym (total-bytes (total .result) (existsBy (a .b) (sendsAt s (a .at) (a .n) (a .p))) (sum (sizes s (a .at) (a .n))) (c .enum-told .given .0 .0) (total .ensures) (c .enum-told .given .1) .0)
-
-returns-2 : tie.Need-returns-2
-returns-2 c =
-    let a = c .before .before .before .before .args in
-    let total = c .before .before .film-total in
-    let s = a .file .now in
-    sym (total-none (total .result) (existsBy (a .b) (sendsAt s (a .at) (a .n) (a .p))) (sum (sizes s (a .at) (a .n))) (total .ensures) (c .enum-told2 .given .1))
+    let a = c .before .before .args in
+    ap (λ (k : ℕ). eqb k 0) (c .carry-from .ensures .0) ∙ exists-test (a .b) (sendsAt (a .file .now) (a .at) (a .n) (a .p))
 
 pub exists-spec : {M : Type 1} → statement M
-exists-spec = tie.close (tie.spec film-total-requires enum-told enum-told-2 returns returns-2)
+exists-spec = tie.close (tie.spec carry-from-requires returns)

@@ -1,50 +1,57 @@
--- `retrieval::write_profile` meets its contract: the rounds that show are written, and then the pre-fetch rounds before them; a
--- schedule exists if they leave nothing. Assumes nothing.
+-- `retrieval::write_profile` meets its contract: the film is added to zeros; a schedule exists if its rounds leave nothing. Assumes
+-- nothing.
 use mathlib.Core.Path.{_≡_, sym, ap, _∙_}
-use Prim.Native.Nat.{ℕ, _+_, _-_, _*_}
+use Prim.Native.Nat.{ℕ, _+_}
 use native.Mathlib.Omega.{arith}
 use borrow.Author.Needs.{needs}
 use lib.Dec.{eqb}
-use lib.ListN.{take}
-use Rattle.films.specs.Sizes.{sizes}
-use Rattle.retrieval.specs.Carry.{carry, profile}
-use Rattle.retrieval.specs.CarryLaws.{prefetch}
-use Rattle.retrieval.specs.Stored.{sendsAt, length-sendsAt, length-profile}
-use Rattle.retrieval.specs.Sheet.{onto}
-use Rattle.retrieval.specs.SheetLaws.{ontoFrom, written}
-use Rattle.retrieval.specs.Parts.{onto-parts}
-use Rattle.retrieval.specs.Written.{exists-test, held-ahead}
+use Rattle.retrieval.specs.Stored.{sendsAt}
+use Rattle.retrieval.specs.Written.{exists-test, zeros-length, zeros-take, zeros-written}
 use Rattle.retrieval.proofs.write_profile.Statement.{statement}
 use Rattle.retrieval.proofs.write_profile.Tie as tie
 
-write-shown-requires : tie.Need-write-shown-requires
-write-shown-requires c κs = search needs
+add-rounds : tie.Need-add-rounds
+add-rounds c = search needs
 
-write-waiting-requires : tie.Need-write-waiting-requires
-write-waiting-requires c κs = search needs
+clear-requires : tie.Need-clear-requires
+clear-requires c κs = search needs
+
+slice-relend-prefix-add-held : tie.Need-slice-relend-prefix-add-held
+slice-relend-prefix-add-held c = search needs
+
+slice-aggregate-add-held : tie.Need-slice-aggregate-add-held
+slice-aggregate-add-held c =
+    let a = c .before .before .before .before .before .before .before .args in
+    let cleared = c .before .before .before .clear in
+    sym (zeros-length (a .file .now) (a .at) (a .n) (a .p) (a .b) (a .part .now) (cleared .last .0) (cleared .ensures))
+
+add-held-requires : tie.Need-add-held-requires
+add-held-requires c κs =
+    let start = c .before .before .before .before .before .before .before in
+    let a = start .args in
+    let cleared = c .before .before .before .clear in
+    zeros-take (a .file .now) (a .at) (a .n) (a .p) (a .b) (a .part .now) (cleared .last .0) (cleared .ensures) (start .pre .0)
 
 same-length : tie.Need-same-length
 same-length c = search needs
 
 returns : tie.Need-returns
 returns c =
-    let start = c .before .before .before .before .before .before .before .before .before .before in
-    let a = start .args in
-    let s = a .file .now in
-    let xs = sendsAt s (a .at) (a .n) (a .p) in
-    let all = profile (a .b) xs in
-    let shown = c .before .before .before .before .before .before .write-shown in
-    let ahead = c .before .before .write-waiting in
-    let parts : ahead .last .0 ≡ onto (λ x h. h) (ontoFrom (a .p) (λ x h. h) (a .part .now) all) (take (a .p) all) =
-    rw (shown .ensures .0, shown .ensures .1, held-ahead (a .b) (a .p) (sizes s (a .at) (a .n))) at (ahead .ensures .0) in
-    let left : ahead .result ≡ carry (a .b) (sizes s (a .at) (a .n)) - a .p * a .b = rw (shown .ensures .1) at (ahead .ensures .1) in
-    let carried : ahead .result ≡ carry (a .b) xs = left ∙ sym (prefetch (a .b) (a .p) (sizes s (a .at) (a .n))) in (
-      written (a .p + a .n) all (a .part .now) (ahead .last .0)
-          (omega (arith, length-profile (a .b) xs, length-sendsAt s (a .at) (a .n) (a .p))) (start .pre .1)
-          (parts ∙ onto-parts (a .p) (λ x h. h) (a .part .now) all),
-      ap (λ (k : ℕ). eqb k 0) carried ∙ exists-test (a .b) xs,
+    let a = c .before .before .before .before .before .before .before .before .before .before .args in
+    let cleared = c .before .before .before .before .before .before .clear in
+    let added = c .before .before .add-held in (
+      zeros-written (a .file .now) (a .at) (a .n) (a .p) (a .b) (a .part .now) (cleared .last .0) (cleared .ensures) (added .last .0) (added .ensures .0),
+      ap (λ (k : ℕ). eqb k 0) (added .ensures .1) ∙ exists-test (a .b) (sendsAt (a .file .now) (a .at) (a .n) (a .p)),
     )
 
 pub write-profile-spec : {M : Type 1} → statement M
 write-profile-spec =
-    tie.close (tie.spec write-shown-requires write-waiting-requires same-length returns)
+    tie.close
+    (tie.spec
+    add-rounds
+    clear-requires
+    slice-relend-prefix-add-held
+    slice-aggregate-add-held
+    add-held-requires
+    same-length
+    returns)

@@ -1,4 +1,4 @@
--- `sheet::clear::clear` meets its contract. The invariant: the first i places are 0 and the rest is as it was. The measure is what is left of
+-- `retrieval::clear::clear` meets its contract. The invariant: the first i places are 0 and the rest is as it was. The measure is what is left of
 -- the n places. Assumes nothing.
 use mathlib.Core.Path.{_≡_, ap, _∙_}
 use mathlib.Core.List.{List, _++_}
@@ -7,8 +7,8 @@ use native.Mathlib.Omega.{arith}
 use borrow.Author.Needs.{needs}
 use borrow.Author.Fill.{fill-more}
 use lib.ListN.{length, set, drop, replicate, length-set}
-use Rattle.sheet.proofs.clear.clear.Statement.{statement}
-use Rattle.sheet.proofs.clear.clear.Tie as tie
+use Rattle.retrieval.proofs.clear.clear.Statement.{statement}
+use Rattle.retrieval.proofs.clear.clear.Tie as tie
 
 abbrev Inv-loop : tie.InvT-loop
 Inv-loop list₀ n i₀ list i = (i ≤ n) × (length list ≡ length list₀) × (list ≡ replicate i 0 ++ drop i list₀)

@@ -1,0 +1,236 @@
+// The rounds of a film that show, from the last to the first, eight at a time. Where nothing is carried into eight rounds and none
+// of them sends more than the reserve, each holds what it sends and nothing is carried out of them. Where eight reserves are carried
+// into them, each reads its whole reserve. In both cases there is no test from round to round.
+use crate::carry_before;
+use crate::less;
+use films::words::size_at;
+use films::words::word_at;
+ghost use mathlib.Core.Path.{_≡_};
+ghost use mathlib.Core.Bool.{true};
+ghost use Prim.Native.Nat.{ℕ, _+_, _-_, _*_, _≤_, _<_, min, max};
+ghost use lib.ListN.{length, drop};
+ghost use Rattle.limits.specs.Bounds.{maxSize, maxReserve};
+ghost use Rattle.films.specs.Sizes.{size, sizes};
+ghost use Rattle.retrieval.specs.Carry.{carry};
+ghost use Rattle.retrieval.specs.Stored.{sendsAt, InRange, maxHeld};
+ghost use Rattle.retrieval.specs.Sheet.{heldIn, Adds};
+ghost use Rattle.retrieval.specs.SheetLaws.{plusFrom};
+ghost use Rattle.retrieval.specs.Shown.{EachWithin, CarriedTo, Showing};
+
+// rounds of a block
+const BLOCK: usize = 8;
+
+// the largest number below 2^31
+const MOST: u32 = 2147483647;
+
+// Whether none of the eight sizes from an offset on is more than b. A size is more exactly if it reaches 2^31 when MOST less b is
+// added, and the join of all of them reaches it if one does. A loop without a test becomes vector code.
+fn block_within(file: &[u8], from: usize, b: u64) -> bool
+    requires { ⌜ (from + 32 ≤ length (now file)) × (b ≤ maxReserve) × EachWithin (now file) from 8 maxSize ⌝ }
+    ensures { λ r. ⌜ (r ≡ true → EachWithin (now (file .entry)) from 8 b) ⌝ }
+{
+    let more = MOST - b as u32;
+    let mut joined: u32 = 0;
+    let mut i = 0;
+    while i < BLOCK {
+        joined = joined | (word_at(file, from + 4 * i) + more);
+        i += 1;
+    }
+    joined <= MOST
+}
+
+// The carry of the film's sizes from i on, where c is that of its sizes from k on.
+fn carry_rounds(file: &[u8], at: usize, n: usize, b: u64, i: usize, k: usize, c: u64) -> u64
+    requires { ⌜ (InRange (now file) at n 0 b) × (i ≤ k) × CarriedTo (now file) at n b k c ⌝ }
+    ensures { λ r. ⌜ CarriedTo (now (file .entry)) at n b i r ⌝ }
+{
+    let mut left = c;
+    let mut j = k - i;
+    while 0 < j {
+        j -= 1;
+        left = carry_before(size_at(file, at + 4 * (i + j)), left, b);
+    }
+    left
+}
+
+// `carry_rounds` where c is as many reserves as there are sizes.
+fn carry_more(file: &[u8], at: usize, n: usize, b: u64, i: usize, k: usize, c: u64) -> u64
+    requires { ⌜ (InRange (now file) at n 0 b) × (i ≤ k) × CarriedTo (now file) at n b k c × ((k - i) * b ≤ c) ⌝ }
+    ensures { λ r. ⌜ CarriedTo (now (file .entry)) at n b i r ⌝ }
+{
+    let mut left = c;
+    let mut j = k - i;
+    while 0 < j {
+        j -= 1;
+        left = size_at(file, at + 4 * (i + j)) + left - b;
+    }
+    left
+}
+
+// `carry_rounds` of the eight sizes from i on.
+fn carry_block(file: &[u8], at: usize, n: usize, b: u64, i: usize, c: u64) -> u64
+    requires { ⌜ (InRange (now file) at n 0 b) × CarriedTo (now file) at n b (i + 8) c ⌝ }
+    ensures { λ r. ⌜ CarriedTo (now (file .entry)) at n b i r ⌝ }
+{
+    if 8 * b <= c {
+        return carry_more(file, at, n, b, i, i + BLOCK, c);
+    }
+    if c == 0 {
+        if block_within(file, at + 4 * i, b) {
+            return 0;
+        }
+    }
+    carry_rounds(file, at, n, b, i, i + BLOCK, c)
+}
+
+// The carry of the film's sizes from i on.
+pub fn carry_shown(file: &[u8], at: usize, n: usize, b: u64, i: usize) -> u64
+    requires { ⌜ (InRange (now file) at n 0 b) × (i ≤ n) ⌝ }
+    ensures { λ r. ⌜ (r ≡ carry b (drop i (sizes (now (file .entry)) at n))) × (r ≤ maxHeld) ⌝ }
+{
+    let mut c: u64 = 0;
+    let mut k = n;
+    while BLOCK <= k - i {
+        k -= BLOCK;
+        c = carry_block(file, at, n, b, k, c);
+    }
+    carry_rounds(file, at, n, b, i, k, c)
+}
+
+// Adds what the film holds in its rounds m to e - 1, which show, to their places of a list that begins with its round a, where c is
+// the carry of its rounds from e on. Gives the carry of its rounds from m on.
+fn add_rounds(
+    part: &mut [u64],
+    file: &[u8],
+    at: usize,
+    n: usize,
+    p: usize,
+    b: u64,
+    a: usize,
+    m: usize,
+    e: usize,
+    c: u64,
+) -> u64
+    requires { ⌜ (Adds (now part) (now file) at n p b a e c) × Showing p a m e ⌝ }
+    ensures { λ r. ⌜ (now (part .exit) ≡ plusFrom (m - a) (now (part .entry)) (heldIn (now (file .entry)) at n p b a e)) × (r ≡ carry b (drop m (sendsAt (now (file .entry)) at n p))) ⌝ }
+{
+    let place = m - a;
+    let offset = at + 4 * (less(m as u64, p as u64) as usize);
+    let mut left = c;
+    let mut j = e - m;
+    while 0 < j {
+        j -= 1;
+        let x = size_at(file, offset + 4 * j);
+        let h = x + left;
+        part[place + j] = part[place + j] + h;
+        left = carry_before(x, left, b);
+    }
+    left
+}
+
+// `add_rounds` where nothing is carried into the rounds and none of them sends more than b.
+fn add_sizes(
+    part: &mut [u64],
+    file: &[u8],
+    at: usize,
+    n: usize,
+    p: usize,
+    b: u64,
+    a: usize,
+    m: usize,
+    e: usize,
+)
+    requires { ⌜ (Adds (now part) (now file) at n p b a e 0) × Showing p a m e × EachWithin (now file) (at + 4 * (m - p)) (e - m) b ⌝ }
+    ensures { λ _. ⌜ now (part .exit) ≡ plusFrom (m - a) (now (part .entry)) (heldIn (now (file .entry)) at n p b a e) ⌝ }
+{
+    let place = m - a;
+    let offset = at + 4 * (less(m as u64, p as u64) as usize);
+    let mut j = e - m;
+    while 0 < j {
+        j -= 1;
+        let x = size_at(file, offset + 4 * j);
+        part[place + j] = part[place + j] + x;
+    }
+}
+
+// `add_rounds` where c is as many reserves as there are rounds.
+fn add_more(
+    part: &mut [u64],
+    file: &[u8],
+    at: usize,
+    n: usize,
+    p: usize,
+    b: u64,
+    a: usize,
+    m: usize,
+    e: usize,
+    c: u64,
+) -> u64
+    requires { ⌜ (Adds (now part) (now file) at n p b a e c) × Showing p a m e × ((e - m) * b ≤ c) ⌝ }
+    ensures { λ r. ⌜ (now (part .exit) ≡ plusFrom (m - a) (now (part .entry)) (heldIn (now (file .entry)) at n p b a e)) × (r ≡ carry b (drop m (sendsAt (now (file .entry)) at n p))) ⌝ }
+{
+    let place = m - a;
+    let offset = at + 4 * (less(m as u64, p as u64) as usize);
+    let mut left = c;
+    let mut j = e - m;
+    while 0 < j {
+        j -= 1;
+        let x = size_at(file, offset + 4 * j);
+        let h = x + left;
+        part[place + j] = part[place + j] + h;
+        left = h - b;
+    }
+    left
+}
+
+// `add_rounds` of the eight rounds from m on.
+fn add_block(
+    part: &mut [u64],
+    file: &[u8],
+    at: usize,
+    n: usize,
+    p: usize,
+    b: u64,
+    a: usize,
+    m: usize,
+    c: u64,
+) -> u64
+    requires { ⌜ (Adds (now part) (now file) at n p b a (m + 8) c) × (a ≤ m) × (p ≤ m) ⌝ }
+    ensures { λ r. ⌜ (now (part .exit) ≡ plusFrom (m - a) (now (part .entry)) (heldIn (now (file .entry)) at n p b a (m + 8))) × (r ≡ carry b (drop m (sendsAt (now (file .entry)) at n p))) ⌝ }
+{
+    if 8 * b <= c {
+        return add_more(part, file, at, n, p, b, a, m, m + BLOCK, c);
+    }
+    if c == 0 {
+        if block_within(file, at + 4 * (m - p), b) {
+            add_sizes(part, file, at, n, p, b, a, m, m + BLOCK);
+            return 0;
+        }
+    }
+    add_rounds(part, file, at, n, p, b, a, m, m + BLOCK, c)
+}
+
+// `add_held` of the rounds from m on, which show.
+pub fn add_shown(
+    part: &mut [u64],
+    file: &[u8],
+    at: usize,
+    n: usize,
+    p: usize,
+    b: u64,
+    a: usize,
+    m: usize,
+    e: usize,
+    c: u64,
+) -> u64
+    requires { ⌜ (Adds (now part) (now file) at n p b a e c) × (m ≡ max a (min p e)) ⌝ }
+    ensures { λ r. ⌜ (now (part .exit) ≡ plusFrom (m - a) (now (part .entry)) (heldIn (now (file .entry)) at n p b a e)) × (r ≡ carry b (drop m (sendsAt (now (file .entry)) at n p))) ⌝ }
+{
+    let mut left = c;
+    let mut k = e;
+    while BLOCK <= k - m {
+        k -= BLOCK;
+        left = add_block(part, file, at, n, p, b, a, k, left);
+    }
+    add_rounds(part, file, at, n, p, b, a, m, k, left)
+}
