@@ -14,6 +14,8 @@ use model::Request;
 ghost use Prim.Native.Nat.{_≤_, _<_};
 ghost use lib.ListN.{length};
 ghost use Rattle.commands.specs.declared.Command.the-variants.{Book, Drop};
+ghost use Rattle.booking.specs.Own.{maxLength};
+ghost use Rattle.table.specs.Columns.{tableWords};
 ghost use Rattle.text.specs.Digits.{outputBytes};
 ghost use Rattle.answering.specs.Contract.{sessionAt, AnswersOnly};
 ghost use Rattle.answering.specs.Kept.{Ready};
@@ -66,22 +68,36 @@ fn step_any(
     }
 }
 
-// BOOK name film p b cabs first last, on a day
+// BOOK name film p b cabs first last, on a day; `table` and `profile` are workspace, whatever stands there
 fn step_book(
     file: &[u8],
     c: Catalogue,
     day: Day,
     rows: [Booking; MAX_BOOKINGS],
     q: Request,
+    table: &mut [u64],
+    profile: &mut [u64],
     opens: &mut [u64],
     reserves: &mut [u64],
     helds: &mut [u64],
     out: &mut [u8],
 ) -> Answered
-    requires { ⌜ (outputBytes ≤ length (now out)) × (0 < day .rounds) × Ready (now file) c (sessionAt day rows (now opens) (now reserves) (now helds)) ⌝ }
+    requires { ⌜ (outputBytes ≤ length (now out)) × (0 < day .rounds) × Ready (now file) c (sessionAt day rows (now opens) (now reserves) (now helds)) × (tableWords ≤ length (now table)) × (maxLength ≤ length (now profile)) ⌝ }
     ensures { λ r. ⌜ AnswersOnly (now (file .entry)) (sessionAt day rows (now (opens .entry)) (now (reserves .entry)) (now (helds .entry))) (Book q) (now (out .entry)) r (now (opens .exit)) (now (reserves .exit)) (now (helds .exit)) (now (out .exit)) ⌝ }
 {
-    let booked = book_kept(file, c, day, rows, PLACES, q, opens, reserves, helds);
+    let booked = book_kept(
+        file,
+        c,
+        day,
+        rows,
+        PLACES,
+        q,
+        table,
+        profile,
+        opens,
+        reserves,
+        helds,
+    );
     let after = booked.day;
     let left = booked.rows;
     let answer = booked.answer;
@@ -125,25 +141,42 @@ fn step_drop(
 }
 
 // Carries any command out as `step` does; a booking or a drop on a day asks no question that would pass.
+// `table` and `profile` are workspace, whatever stands there.
 pub fn step_rows(
     file: &[u8],
     c: Catalogue,
     day: Day,
     rows: [Booking; MAX_BOOKINGS],
     command: Command,
+    table: &mut [u64],
+    profile: &mut [u64],
     opens: &mut [u64],
     reserves: &mut [u64],
     helds: &mut [u64],
     out: &mut [u8],
 ) -> Answered
-    requires { ⌜ (outputBytes ≤ length (now out)) × Ready (now file) c (sessionAt day rows (now opens) (now reserves) (now helds)) ⌝ }
+    requires { ⌜ (outputBytes ≤ length (now out)) × Ready (now file) c (sessionAt day rows (now opens) (now reserves) (now helds)) × (tableWords ≤ length (now table)) × (maxLength ≤ length (now profile)) ⌝ }
     ensures { λ r. ⌜ AnswersOnly (now (file .entry)) (sessionAt day rows (now (opens .entry)) (now (reserves .entry)) (now (helds .entry))) command (now (out .entry)) r (now (opens .exit)) (now (reserves .exit)) (now (helds .exit)) (now (out .exit)) ⌝ }
 {
     if day.rounds == 0 {
         return step_any(file, day, rows, command, opens, reserves, helds, out);
     }
     match command {
-        Command::Book(q) => step_book(file, c, day, rows, q, opens, reserves, helds, out),
+        Command::Book(q) => {
+            step_book(
+                file,
+                c,
+                day,
+                rows,
+                q,
+                table,
+                profile,
+                opens,
+                reserves,
+                helds,
+                out,
+            )
+        }
         Command::Drop(name) => step_drop(file, c, day, rows, name, opens, reserves, helds, out),
         Command::Open(_, _, _) => {
             step_any(file, day, rows, command, opens, reserves, helds, out)

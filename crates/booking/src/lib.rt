@@ -27,7 +27,7 @@ use table::tabulate::tabulate;
 ghost use mathlib.Core.Path.{_≡_};
 ghost use mathlib.Core.Bool.{true};
 ghost use mathlib.Core.List.{List};
-ghost use Prim.Native.Nat.{ℕ, min};
+ghost use Prim.Native.Nat.{ℕ, min, _≤_};
 ghost use lib.ListN.{length, take};
 ghost use Rattle.laws.specs.Questions.{refusal};
 ghost use Rattle.laws.specs.Words.{Bytes};
@@ -39,12 +39,13 @@ ghost use Rattle.model.specs.Fit.{FitsAt};
 ghost use Rattle.questions.specs.Given.{settingAt};
 ghost use Rattle.questions.specs.Numbers.{standingAsks};
 ghost use Rattle.questions.specs.SheetOf.{SheetKept, HeldKept};
+ghost use Rattle.table.specs.Columns.{tableWords};
 ghost use Rattle.table.specs.Streams.{streams};
 ghost use Rattle.table.specs.Table.{Tabled};
 ghost use Rattle.questions.specs.Events.{Gathered};
 ghost use Rattle.questions.specs.Listed.{Workspace};
 ghost use Rattle.booking.specs.Contract.{Leaves, Placing, Placeable};
-ghost use Rattle.booking.specs.Own.{requestOf};
+ghost use Rattle.booking.specs.Own.{maxLength, requestOf};
 
 // What a booking gives: the answer, the day and the list's first 256 places.
 pub struct Outcome {
@@ -54,7 +55,7 @@ pub struct Outcome {
 }
 
 // rounds that a stream is open, at most
-const MAX_LENGTH: usize = MAX_PREFETCH as usize + MAX_ROUNDS;
+pub const MAX_LENGTH: usize = MAX_PREFETCH as usize + MAX_ROUNDS;
 
 fn smaller(a: u64, b: u64) -> u64
     ensures { λ r. ⌜ r ≡ min a b ⌝ }
@@ -179,7 +180,7 @@ fn book_checked(
 }
 
 // Booking where the file's questions, 14, 15, 11 and 16 have passed and the sheet is that of the standing bookings already, so that it is
-// not laid down again; c is the file's catalogue.
+// not laid down again; c is the file's catalogue. `table` and `profile` are workspace, whatever stands there.
 pub fn book_kept(
     file: &[u8],
     c: Catalogue,
@@ -187,18 +188,18 @@ pub fn book_kept(
     rows: [Booking; MAX_BOOKINGS],
     places: u64,
     q: Request,
+    table: &mut [u64],
+    profile: &mut [u64],
     opens: &mut [u64],
     reserves: &mut [u64],
     helds: &mut [u64],
 ) -> Outcome
-    requires { ⌜ (c ≡ catalogueOf (now file)) × (refusal (standingAsks (now file) day rows places (length (now opens)) (length (now reserves)) (length (now helds))) ≡ 0) × SheetKept (settingAt (now file) day) (take (day .count) rows) (now opens) (now reserves) (now helds) ⌝ }
+    requires { ⌜ (c ≡ catalogueOf (now file)) × (refusal (standingAsks (now file) day rows places (length (now opens)) (length (now reserves)) (length (now helds))) ≡ 0) × SheetKept (settingAt (now file) day) (take (day .count) rows) (now opens) (now reserves) (now helds) × (tableWords ≤ length (now table)) × (maxLength ≤ length (now profile)) ⌝ }
     ensures { λ r. ⌜ Leaves (settingAt (now (file .entry)) day) (bookCall (settingAt (now (file .entry)) day) (stateOf day rows places (now (opens .entry)) (now (reserves .entry)) (now (helds .entry))) q) (r .answer) (r .day) (r .rows) (now (opens .exit)) (now (reserves .exit)) (now (helds .exit)) ⌝ }
 {
-    let mut table = [0u64; TABLE_WORDS];
-    tabulate(c, rows, day.count as usize, &mut table);
+    tabulate(c, rows, day.count as usize, table);
     let y = requested(c, q);
-    let mut profile = [0u64; MAX_LENGTH];
-    let refused = own_number(file, day, &table, places, q, y, &mut profile);
+    let refused = own_number(file, day, table, places, q, y, profile);
     if refused != 0 {
         return Outcome {
             answer: Answer::Refused(refused),
@@ -211,7 +212,7 @@ pub fn book_kept(
         day,
         rows,
         q,
-        &table,
+        table,
         y,
         &profile[..n],
         opens,

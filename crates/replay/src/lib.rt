@@ -65,7 +65,7 @@ fn rows_kept(before: u64, after: u64) -> usize
 }
 
 // Carries the journal's entries out in order, from an opened day on, until one's words do not fit in what is left of the log. The
-// file's catalogue is c.
+// file's catalogue is c. `active` and `ahead` are written anew for the PLAYs of a span, so that between spans they are workspace.
 fn run(
     file: &[u8],
     c: Catalogue,
@@ -122,6 +122,8 @@ fn run(
             entry_at(journal, i),
             log,
             place,
+            &mut active,
+            &mut ahead,
             opens,
             reserves,
             helds,

@@ -25,6 +25,8 @@ ghost use Rattle.model.specs.Code.{stateOf};
 ghost use Rattle.questions.specs.Given.{settingAt};
 ghost use Rattle.questions.specs.Numbers.{standingAsks};
 ghost use Rattle.questions.specs.SheetOf.{SheetKept};
+ghost use Rattle.table.specs.Columns.{tableWords};
+ghost use Rattle.booking.specs.Own.{maxLength};
 ghost use Rattle.playing.specs.Contract.{linesIn};
 ghost use Rattle.replay.specs.DeskRun.{refusalOf, Refuses, asStep, Steps};
 ghost use Rattle.replay.specs.Pictured.{Pictured};
@@ -46,7 +48,7 @@ pub struct PlayStep {
 }
 
 // BOOK, where the log has three places left, the questions before booking's own have passed and the sheet is that of the standing
-// bookings.
+// bookings. `table` and `profile` are workspace, whatever stands there.
 fn step_book(
     file: &[u8],
     c: Catalogue,
@@ -56,14 +58,28 @@ fn step_book(
     q: Request,
     log: &mut [u64],
     at: usize,
+    table: &mut [u64],
+    profile: &mut [u64],
     opens: &mut [u64],
     reserves: &mut [u64],
     helds: &mut [u64],
 ) -> Stepped
-    requires { ⌜ (at + 3 ≤ length (now log)) × (c ≡ catalogueOf (now file)) × (refusal (standingAsks (now file) day rows places (length (now opens)) (length (now reserves)) (length (now helds))) ≡ 0) × SheetKept (settingAt (now file) day) (take (day .count) rows) (now opens) (now reserves) (now helds) ⌝ }
+    requires { ⌜ (at + 3 ≤ length (now log)) × (c ≡ catalogueOf (now file)) × (refusal (standingAsks (now file) day rows places (length (now opens)) (length (now reserves)) (length (now helds))) ≡ 0) × SheetKept (settingAt (now file) day) (take (day .count) rows) (now opens) (now reserves) (now helds) × (tableWords ≤ length (now table)) × (maxLength ≤ length (now profile)) ⌝ }
     ensures { λ r. ⌜ Steps (settingAt (now (file .entry)) day) (stateOf day rows places (now (opens .entry)) (now (reserves .entry)) (now (helds .entry))) (Book q) (now (log .entry)) at r (now (log .exit)) (now (opens .exit)) (now (reserves .exit)) (now (helds .exit)) ⌝ }
 {
-    let booked = book_kept(file, c, day, rows, places, q, opens, reserves, helds);
+    let booked = book_kept(
+        file,
+        c,
+        day,
+        rows,
+        places,
+        q,
+        table,
+        profile,
+        opens,
+        reserves,
+        helds,
+    );
     let answer = booked.answer;
     let next = write_answer(log, at, answer);
     let after = booked.day;
@@ -189,7 +205,7 @@ fn refusal_of(entry: Entry, verdict: u32) -> u32
 }
 
 // Carries an entry out and logs it from place `at` on; where its words do not fit, nothing is done. The file's catalogue is c, 14,
-// 15, 11 and 16 would pass, and the sheet is that of the standing bookings.
+// 15, 11 and 16 would pass, and the sheet is that of the standing bookings. `table` and `profile` are workspace, whatever stands there.
 pub fn step(
     file: &[u8],
     c: Catalogue,
@@ -199,11 +215,13 @@ pub fn step(
     entry: Entry,
     log: &mut [u64],
     at: usize,
+    table: &mut [u64],
+    profile: &mut [u64],
     opens: &mut [u64],
     reserves: &mut [u64],
     helds: &mut [u64],
 ) -> Stepped
-    requires { ⌜ (at ≤ length (now log)) × (c ≡ catalogueOf (now file)) × Pictured (settingAt (now file) day) (stateOf day rows places (now opens) (now reserves) (now helds)) ⌝ }
+    requires { ⌜ (at ≤ length (now log)) × (c ≡ catalogueOf (now file)) × Pictured (settingAt (now file) day) (stateOf day rows places (now opens) (now reserves) (now helds)) × (tableWords ≤ length (now table)) × (maxLength ≤ length (now profile)) ⌝ }
     ensures { λ r. ⌜ Steps (settingAt (now (file .entry)) day) (stateOf day rows places (now (opens .entry)) (now (reserves .entry)) (now (helds .entry))) entry (now (log .entry)) at r (now (log .exit)) (now (opens .exit)) (now (reserves .exit)) (now (helds .exit)) ⌝ }
 {
     if log.len() - at < ANSWER_WORDS {
@@ -229,6 +247,8 @@ pub fn step(
                 q,
                 log,
                 at,
+                table,
+                profile,
                 opens,
                 reserves,
                 helds,

@@ -10,11 +10,11 @@ use Rattle.answering.proofs.step_book.Tie as tie
 
 book-kept-requires : tie.Need-book-kept-requires
 book-kept-requires c κs =
-    let start = c .before .before .before .before .before .before .before .before in
+    let start = c .before .before .before .before .before .before .before .before .before .before .before .before in
     let a = start .args in
     let s = sessionAt (a .day) (a .rows) (a .opens .now) (a .reserves .now) (a .helds .now) in
     let ready = start .pre .2 in
-    (ready .catalogue, ready-asks (a .file .now) (a .c) s ready (start .pre .1), kept-sheet (a .file .now) s (ready .kept) (start .pre .1))
+    (ready .catalogue, ready-asks (a .file .now) (a .c) s ready (start .pre .1), kept-sheet (a .file .now) s (ready .kept) (start .pre .1), start .pre .3, start .pre .4)
 
 write-first-requires : tie.Need-write-first-requires
 write-first-requires c κs = search needs
@@ -31,11 +31,17 @@ same-length-3 c = search needs
 same-length-4 : tie.Need-same-length-4
 same-length-4 c = search needs
 
+same-length-5 : tie.Need-same-length-5
+same-length-5 c = search needs
+
+same-length-6 : tie.Need-same-length-6
+same-length-6 c = search needs
+
 returns : tie.Need-returns
 returns c =
     let wrote = c .before .before .write-first in
-    let booked = c .before .before .before .before .before .before .before .before .before .before .before .before .book-kept in
-    let start = c .before .before .before .before .before .before .before .before .before .before .before .before .before .before .before .before .before .before .before .before .before in
+    let booked = c .before .before .before .before .before .before .before .before .before .before .before .before .before .before .before .before .book-kept in
+    let start = c .before .before .before .before .before .before .before .before .before .before .before .before .before .before .before .before .before .before .before .before .before .before .before .before .before .before .before .before .before in
     let a = start .args in
     record {
       none = refl;
@@ -62,4 +68,6 @@ step-book-spec =
     same-length-2
     same-length-3
     same-length-4
+    same-length-5
+    same-length-6
     returns)

@@ -219,6 +219,7 @@ step-ahead-requires c κs =
       enough,
       record {
         for-table = omega (arith, l .inv .6);
+        for-profile = omega (arith, l .inv .7);
         for-words = omega (arith, tried .kept .1 .1 .1 .1 .1 .1 .1 .0, l .inv .8);
       },
       g .ready,

@@ -25,13 +25,19 @@ same-length-3 c = search needs
 same-length-4 : tie.Need-same-length-4
 same-length-4 c = search needs
 
+same-length-5 : tie.Need-same-length-5
+same-length-5 c = search needs
+
+same-length-6 : tie.Need-same-length-6
+same-length-6 c = search needs
+
 returns : tie.Need-returns
 returns c =
     let wrote = c .before .before .before .before in
-    let called = wrote .before .before .before .before .before .before .before .before in
-    let start = called .before .before .before .before .before .before .before .before .before in
+    let called = c .before .before .before .before .before .before .before .before .before .before .before .before .before .before .before .before in
+    let start = c .before .before .before .before .before .before .before .before .before .before .before .before .before .before .before .before .before .before .before .before .before .before .before .before .before .before .before .before .before in
     let a = start .args in
-    let after = called .book-kept .last .1 .1 .1 .1 .1 .1 in
+    let after = called .book-kept .last .1 .1 .1 .1 .1 .1 .1 .1 in
     booked-steps (settingAt (a .file .now) (a .day)) (stateOf (a .day) (a .rows) (a .places) (a .opens .now) (a .reserves .now) (a .helds .now)) (a .q)
     (a .log .now) (a .at) _ (wrote .write-answer .last .0) (after .0) (after .1 .0) (after .1 .1 .0) (called .book-kept .result .answer) (start .pre .0) refl
     (called .book-kept .ensures) (wrote .write-answer .ensures)
@@ -46,4 +52,6 @@ step-book-spec =
     same-length-2
     same-length-3
     same-length-4
+    same-length-5
+    same-length-6
     returns)
