@@ -26,14 +26,13 @@ use table::streams::TABLE_WORDS;
 use table::tabulate::tabulate;
 ghost use mathlib.Core.Path.{_≡_};
 ghost use mathlib.Core.Bool.{true};
-ghost use mathlib.Core.List.{List};
 ghost use Prim.Native.Nat.{ℕ, min, _≤_};
 ghost use lib.ListN.{length, take};
 ghost use Rattle.laws.specs.Questions.{refusal};
-ghost use Rattle.laws.specs.Words.{Bytes};
 ghost use Rattle.films.specs.Catalogue.{catalogueOf};
 ghost use Rattle.model.specs.Calls.{bookQuestions, bookCall};
 ghost use Rattle.model.specs.Code.{stateOf};
+ghost use Rattle.model.specs.declared.Answer.the-variants.{Booked};
 ghost use Rattle.model.specs.FirstFit.{AnswersFirst};
 ghost use Rattle.model.specs.Fit.{FitsAt};
 ghost use Rattle.questions.specs.Given.{settingAt};
@@ -44,7 +43,7 @@ ghost use Rattle.table.specs.Streams.{streams};
 ghost use Rattle.table.specs.Table.{Tabled};
 ghost use Rattle.questions.specs.Events.{Gathered};
 ghost use Rattle.questions.specs.Listed.{Workspace};
-ghost use Rattle.booking.specs.Contract.{Leaves, Placing, Placeable};
+ghost use Rattle.booking.specs.Contract.{Leaves, Placeable, Places, Recordable, dayBooked, rowsBooked, Bookable, Books};
 ghost use Rattle.booking.specs.Own.{maxLength, requestOf};
 
 // What a booking gives: the answer, the day and the list's first 256 places.
@@ -64,10 +63,10 @@ fn smaller(a: u64, b: u64) -> u64
 }
 
 // Places a request whose questions but 22 have passed on the sheet of the standing bookings, whose streams the table has: the first
-// start of the window that fits gets a record and is added to the sheet. The request's stream is y, which holds `profile`.
+// start of the window that fits is added to the sheet. The request's stream is y, which holds `profile`. The record is the caller's to
+// write, so that the records' places are not copied here.
 fn place_on(
     day: Day,
-    rows: [Booking; MAX_BOOKINGS],
     q: Request,
     table: &[u64],
     y: Stream,
@@ -75,9 +74,9 @@ fn place_on(
     opens: &mut [u64],
     reserves: &mut [u64],
     helds: &mut [u64],
-) -> Outcome
-    requires { ⌜ Placeable day rows q (now table) y (now profile) (now opens) (now reserves) (now helds) ⌝ }
-    ensures { λ r. ⌜ ((f : List ℕ) (places : ℕ) → Bytes f → Placing f day rows places q (streams (now (table .entry))) y (now (profile .entry)) (now (opens .entry)) (now (reserves .entry)) (now (helds .entry)) → Leaves (settingAt f day) (bookCall (settingAt f day) (stateOf day rows places (now (opens .entry)) (now (reserves .entry)) (now (helds .entry))) q) (r .answer) (r .day) (r .rows) (now (opens .exit)) (now (reserves .exit)) (now (helds .exit))) ⌝ }
+) -> Answer
+    requires { ⌜ Placeable day q (now table) y (now profile) (now opens) (now reserves) (now helds) ⌝ }
+    ensures { λ r. ⌜ Places day q (streams (now (table .entry))) y (now (profile .entry)) (now (opens .entry)) (now (reserves .entry)) (now (helds .entry)) r (now (opens .exit)) (now (reserves .exit)) (now (helds .exit)) ⌝ }
 {
     let count = day.count as usize;
     let found = first_start(
@@ -103,23 +102,33 @@ fn place_on(
                 reserves,
                 helds,
             );
-            Outcome {
-                answer: Answer::Booked(s),
-                day: Day {
-                    rounds: day.rounds,
-                    disk: day.disk,
-                    memory: day.memory,
-                    now: day.now,
-                    count: day.count + 1,
-                },
-                rows: append(rows, count, q, s),
-            }
+            Answer::Booked(s)
         }
-        Found::Nowhere => Outcome {
-            answer: Answer::Refused(NO_START),
-            day,
-            rows,
+        Found::Nowhere => Answer::Refused(NO_START),
+    }
+}
+
+// What an answer leaves: a request that is accepted has a record, and the day counts it.
+fn record_answer(day: Day, rows: [Booking; MAX_BOOKINGS], q: Request, answer: Answer) -> Outcome
+    requires { ⌜ ((s : ℕ) → answer ≡ Booked s → Recordable day q s) ⌝ }
+    ensures { λ r. ⌜ (r .answer ≡ answer) × (r .day ≡ dayBooked day answer) × (r .rows ≡ rowsBooked day rows q answer) ⌝ }
+{
+    match answer {
+        Answer::Booked(s) => Outcome {
+            answer,
+            day: Day {
+                rounds: day.rounds,
+                disk: day.disk,
+                memory: day.memory,
+                now: day.now,
+                count: day.count + 1,
+            },
+            rows: append(rows, day.count as usize, q, s),
         },
+        Answer::Refused(_) => Outcome { answer, day, rows },
+        Answer::Opened => Outcome { answer, day, rows },
+        Answer::Dropped => Outcome { answer, day, rows },
+        Answer::Played(_, _) => Outcome { answer, day, rows },
     }
 }
 
@@ -166,17 +175,34 @@ fn book_checked(
         helds,
     );
     let n = y.prefetch + y.rounds;
-    place_on(
-        day,
-        rows,
-        q,
-        table,
-        y,
-        &profile[..n],
-        opens,
-        reserves,
-        helds,
-    )
+    let answer = place_on(day, q, table, y, &profile[..n], opens, reserves, helds);
+    record_answer(day, rows, q, answer)
+}
+
+// The answer where the file's questions, 14, 15, 11 and 16 have passed, and table and sheet are those of the standing bookings already;
+// c is the file's catalogue. `profile` is workspace, whatever stands there.
+pub fn book_tabled(
+    file: &[u8],
+    c: Catalogue,
+    day: Day,
+    places: u64,
+    q: Request,
+    table: &[u64],
+    profile: &mut [u64],
+    opens: &mut [u64],
+    reserves: &mut [u64],
+    helds: &mut [u64],
+) -> Answer
+    requires { ⌜ (c ≡ catalogueOf (now file)) × Bookable (now file) day places (now table) (now opens) (now reserves) (now helds) × (tableWords ≤ length (now table)) × (maxLength ≤ length (now profile)) ⌝ }
+    ensures { λ r. ⌜ Books (now (file .entry)) day places q (now (table .entry)) (now (opens .entry)) (now (reserves .entry)) (now (helds .entry)) r (now (opens .exit)) (now (reserves .exit)) (now (helds .exit)) ⌝ }
+{
+    let y = requested(c, q);
+    let refused = own_number(file, day, table, places, q, y, profile);
+    if refused != 0 {
+        return Answer::Refused(refused);
+    }
+    let n = y.prefetch + y.rounds;
+    place_on(day, q, table, y, &profile[..n], opens, reserves, helds)
 }
 
 // Booking where the file's questions, 14, 15, 11 and 16 have passed and the sheet is that of the standing bookings already, so that it is
@@ -198,27 +224,19 @@ pub fn book_kept(
     ensures { λ r. ⌜ Leaves (settingAt (now (file .entry)) day) (bookCall (settingAt (now (file .entry)) day) (stateOf day rows places (now (opens .entry)) (now (reserves .entry)) (now (helds .entry))) q) (r .answer) (r .day) (r .rows) (now (opens .exit)) (now (reserves .exit)) (now (helds .exit)) ⌝ }
 {
     tabulate(c, rows, day.count as usize, table);
-    let y = requested(c, q);
-    let refused = own_number(file, day, table, places, q, y, profile);
-    if refused != 0 {
-        return Outcome {
-            answer: Answer::Refused(refused),
-            day,
-            rows,
-        };
-    }
-    let n = y.prefetch + y.rounds;
-    place_on(
+    let answer = book_tabled(
+        file,
+        c,
         day,
-        rows,
+        places,
         q,
         table,
-        y,
-        &profile[..n],
+        profile,
         opens,
         reserves,
         helds,
-    )
+    );
+    record_answer(day, rows, q, answer)
 }
 
 // Booking: the answer, the day, every record place and every place of the sheet afterwards are the model's, for every input.

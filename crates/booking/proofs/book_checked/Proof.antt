@@ -131,11 +131,16 @@ place-on-requires c κs =
     let made = tabled-streams (catalogueOf f) (a .day .count) (a .rows) (a .table .now) (s .few) (omega (arith, s .few, full)) (start .pre .3) in
     record {
       file = f;
+      rows = a .rows;
       places = a .places;
       bytes = bytes known;
+      full = full;
       placing = laid-placing f (a .day) (a .rows) (a .places) (a .q) xs (a .opens .now) (a .reserves .now) (a .helds .now) _ _ _ (bytes known) full passed made (c .before .before .before .before .before .before .before .before .before .before .before .lay-checked .ensures) (a .y) _ (start .pre .0) (number .ensures .held (c .before .before .before .before .before .before .before .before .before .before .before .before .before .before .before .if1 .left));
       words = start .pre .2 .words;
     }
+
+record-answer-requires : tie.Need-record-answer-requires
+record-answer-requires c κs = c .before .before .before .before .before .before .place-on .ensures .recordable
 
 same-length : tie.Need-same-length
 same-length c = search needs
@@ -148,21 +153,23 @@ same-length-3 c = search needs
 
 returns-2 : tie.Need-returns-2
 returns-2 c =
-    let start = c .before .before .before .before .before .before .before .before .before .before .before .before .before .before .before .before .before .before .before .before .before .before .before .before .before .before .before .before .before .before .before .before .before in
+    let start = c .before .before .before .before .before .before .before .before .before .before .before .before .before .before .before .before .before .before .before .before .before .before .before .before .before .before .before .before .before .before .before .before .before .before in
     let a = start .args in
     let f = a .file .now in
     let xs = streams (a .table .now) in
     let full : length (a .rows) ≡ maxBookings = omega (arith, start) in
     let s = standing-held f (a .day) (a .rows) (a .places) (length (a .opens .now)) (length (a .reserves .now)) (length (a .helds .now)) (start .pre .1) in
-    let number = c .before .before .before .before .before .before .before .before .before .before .before .before .before .before .before .before .before .before .before .before .before .before .before .before .own-number in
+    let number = c .before .before .before .before .before .before .before .before .before .before .before .before .before .before .before .before .before .before .before .before .before .before .before .before .before .own-number in
     let n = own-decides f (a .day) (a .rows) (a .places) (a .q) (length (a .opens .now)) (length (a .reserves .now)) (length (a .helds .now)) (number .result) (start .pre .1) (number .ensures .number (a .rows) full (start .pre .3)) in
-    let passed = sym n ∙ c .before .before .before .before .before .before .before .before .before .before .before .before .before .before .before .before .before .before .before .before .before .before .if1 .left in
-    let known = c .before .before .before .before .before .before .before .before .before .before .before .before .before .before .before .before .before .before .before .before .before .before .before .before .before .before .before .before .before .before .before .before in
+    let passed = sym n ∙ c .before .before .before .before .before .before .before .before .before .before .before .before .before .before .before .before .before .before .before .before .before .before .before .if1 .left in
+    let known = c .before .before .before .before .before .before .before .before .before .before .before .before .before .before .before .before .before .before .before .before .before .before .before .before .before .before .before .before .before .before .before .before .before in
     let made = tabled-streams (catalogueOf f) (a .day .count) (a .rows) (a .table .now) (s .few) (omega (arith, s .few, full)) (start .pre .3) in
-    let laid = c .before .before .before .before .before .before .before .before .before .before .before .before .before .before .before .before .before .before .lay-checked .ensures in
-    let placing = laid-placing f (a .day) (a .rows) (a .places) (a .q) xs (a .opens .now) (a .reserves .now) (a .helds .now) _ _ _ (bytes known) full passed made laid (a .y) _ (start .pre .0) (number .ensures .held (c .before .before .before .before .before .before .before .before .before .before .before .before .before .before .before .before .before .before .before .before .before .before .if1 .left)) in
-    laid-leaves f (a .day) (a .rows) (a .places) (a .q) xs (a .opens .now) (a .reserves .now) (a .helds .now) _ _ _ (bytes known) full passed made laid _ _ _ _ _ _
-    (c .before .before .before .before .before .before .place-on .ensures f (a .places) (bytes known) placing)
+    let laid = c .before .before .before .before .before .before .before .before .before .before .before .before .before .before .before .before .before .before .before .lay-checked .ensures in
+    let placing = laid-placing f (a .day) (a .rows) (a .places) (a .q) xs (a .opens .now) (a .reserves .now) (a .helds .now) _ _ _ (bytes known) full passed made laid (a .y) _ (start .pre .0) (number .ensures .held (c .before .before .before .before .before .before .before .before .before .before .before .before .before .before .before .before .before .before .before .before .before .before .before .if1 .left)) in
+    let left = c .record-answer .ensures in
+    rw (left .0, left .1, left .2)
+    (laid-leaves f (a .day) (a .rows) (a .places) (a .q) xs (a .opens .now) (a .reserves .now) (a .helds .now) _ _ _ (bytes known) full passed made laid _ _ _ _ _ _
+    (c .before .before .before .before .before .before .before .place-on .ensures .leaves f (a .rows) (a .places) (bytes known) full placing))
 
 pub book-checked-spec : {M : Type 1} → statement M
 book-checked-spec =
@@ -176,6 +183,7 @@ book-checked-spec =
     array-share-prefix-profile
     slice-aggregate-place-on
     place-on-requires
+    record-answer-requires
     same-length
     same-length-2
     same-length-3

@@ -1,10 +1,9 @@
 -- `booking::place_on` meets its contract: the sheet is that of the standing bookings, so the start found is the model's, and one booking more
 -- makes the model's sheet. Assumes nothing.
 use borrow.Author.Needs.{needs}
-use mathlib.Core.Path.{_≡_, sym, ap, _∙_}
+use mathlib.Core.Path.{_≡_, sym}
+use Prim.Native.Nat.{ℕ}
 use native.Mathlib.Omega.{arith}
-use lib.ListN.{length}
-use Rattle.limits.specs.Bounds.{maxBookings}
 use Rattle.table.specs.Streams.{streams}
 use Rattle.booking.specs.Placing.{searches, search-starts, start-raises, start-leaves, search-none}
 use Rattle.booking.proofs.place_on.Statement.{statement}
@@ -15,7 +14,7 @@ first-start-requires c κs =
     let start = c .before .before .before .before .before .before .before .before in
     let a = start .args in
     let g = start .pre in
-    let s = searches (g .file) (a .day) (a .rows) (g .places) (a .q) (streams (a .table .now)) (a .y) (a .profile .now) (a .opens .now) (a .reserves .now) (a .helds .now) (g .bytes) (omega (arith, start)) (g .placing) in
+    let s = searches (g .file) (a .day) (g .rows) (g .places) (a .q) (streams (a .table .now)) (a .y) (a .profile .now) (a .opens .now) (a .reserves .now) (a .helds .now) (g .bytes) (g .full) (g .placing) in
     (g .words, s .0, s .1, s .2, s .3)
 
 enum-known-found : tie.Need-enum-known-found
@@ -32,27 +31,7 @@ add-stream-requires c κs =
     let search = c .before .before .before .before .before .before .before .first-start in
     let at = c .before .before .before .before .before .found .given in
     rw (c .before .before .before .start-at .ensures)
-    (start-raises (g .file) (a .day) (a .rows) (g .places) (a .q) (streams (a .table .now)) (a .y) (a .profile .now) (a .opens .now) (a .reserves .now) (a .helds .now) (g .bytes) (omega (arith, start)) (g .placing) (search .result) (search .ensures) (at .0 .0) (sym (at .1)))
-
-add-t30 : tie.Need-add-t30
-add-t30 c =
-    let start = c .before .before .before .before .before .before .before .before .before .before .before .before .before .before .before .before .before .before .before .before .before .before .before .before in
-    let a = start .args in
-    let g = start .pre in
-    let search = c .before .before .before .before .before .before .before .before .before .before .before .before .before .before .before .first-start in
-    let at = c .before .before .before .before .before .before .before .before .before .before .before .before .before .found .given in
-    let can = search-starts (g .file) (a .day) (a .rows) (g .places) (a .q) (streams (a .table .now)) (a .y) (a .profile .now) (a .opens .now) (a .reserves .now) (a .helds .now) (g .bytes) (omega (arith, start)) (g .placing) (search .result) (search .ensures) (at .0 .0) (sym (at .1)) in
-    omega (arith, can .count)
-
-append-requires : tie.Need-append-requires
-append-requires c κs =
-    let start = c .before .before .before .before .before .before .before .before .before .before .before .before .before .before .before .before .before .before .before .before .before .before .before .before in
-    let a = start .args in
-    let g = start .pre in
-    let search = c .before .before .before .before .before .before .before .before .before .before .before .before .before .before .before .first-start in
-    let at = c .before .before .before .before .before .before .before .before .before .before .before .before .before .found .given in
-    let can = search-starts (g .file) (a .day) (a .rows) (g .places) (a .q) (streams (a .table .now)) (a .y) (a .profile .now) (a .opens .now) (a .reserves .now) (a .helds .now) (g .bytes) (omega (arith, start)) (g .placing) (search .result) (search .ensures) (at .0 .0) (sym (at .1)) in
-    (can .count, can .film, can .prefetch, can .reserve, omega (arith, can .start))
+    (start-raises (g .file) (a .day) (g .rows) (g .places) (a .q) (streams (a .table .now)) (a .y) (a .profile .now) (a .opens .now) (a .reserves .now) (a .helds .now) (g .bytes) (g .full) (g .placing) (search .result) (search .ensures) (at .0 .0) (sym (at .1)))
 
 enum-told : tie.Need-enum-told
 enum-told c = search needs
@@ -68,16 +47,20 @@ same-length-3 c = search needs
 
 returns : tie.Need-returns
 returns c =
-    let start = c .before .before .before .before .before .before .before .before .before .before .before .before .before .before .before .before .before .before .before .before .before .before .before .before .before in
+    let start = c .before .before .before .before .before .before .before .before .before .before .before .before .before .before .before .before .before .before .before .before .before .before .before in
     let a = start .args in
-    let search = c .before .before .before .before .before .before .before .before .before .before .before .before .before .before .before .before .first-start in
-    let at = c .before .before .before .before .before .before .before .before .before .before .before .before .before .before .found .given in
-    let added = c .before .before .before .before .before .before .before .before .add-stream .ensures in
-    let full : length (a .rows) ≡ maxBookings = omega (arith, start) in
-    λ f places bytes g.
-    rw (c .append .ensures)
-    (start-leaves f (a .day) (a .rows) places (a .q) (streams (a .table .now)) (a .y) (a .profile .now) (a .opens .now) (a .reserves .now) (a .helds .now) bytes full g (search .result) (search .ensures) (at .0 .0) (sym (at .1)) _ _ _
-    (rw (c .before .before .before .before .before .before .before .before .before .before .before .before .start-at .ensures) at added))
+    let g = start .pre in
+    let search = c .before .before .before .before .before .before .before .before .before .before .before .before .before .before .first-start in
+    let at = c .before .before .before .before .before .before .before .before .before .before .before .before .found .given in
+    let added = rw (c .before .before .before .before .before .before .before .before .before .before .start-at .ensures) at (c .before .before .before .before .before .before .add-stream .ensures) in
+    let can = search-starts (g .file) (a .day) (g .rows) (g .places) (a .q) (streams (a .table .now)) (a .y) (a .profile .now) (a .opens .now) (a .reserves .now) (a .helds .now) (g .bytes) (g .full) (g .placing) (search .result) (search .ensures) (at .0 .0) (sym (at .1)) in
+    record {
+      leaves = λ f rows places bytes full placing.
+          start-leaves f (a .day) rows places (a .q) (streams (a .table .now)) (a .y) (a .profile .now) (a .opens .now) (a .reserves .now) (a .helds .now) bytes full placing (search .result) (search .ensures) (at .0 .0) (sym (at .1)) _ _ _ added;
+      recordable = λ s e.
+          let is : at .0 .0 ≡ s = cc in
+          record { count = can .count; film = can .film; prefetch = can .prefetch; reserve = can .reserve; start = omega (arith, can .start) };
+    }
 
 same-length-4 : tie.Need-same-length-4
 same-length-4 c = search needs
@@ -90,12 +73,13 @@ same-length-6 c = search needs
 
 returns-2 : tie.Need-returns-2
 returns-2 c =
-    let start = c .before .before .before .before .before .before .before .before .before .before .before in
-    let a = start .args in
+    let a = c .before .before .before .before .before .before .before .before .before .before .before .args in
     let search = c .before .before .first-start in
-    let full : length (a .rows) ≡ maxBookings = omega (arith, start) in
-    λ f places bytes g.
-    search-none f (a .day) (a .rows) places (a .q) (streams (a .table .now)) (a .y) (a .profile .now) (a .opens .now) (a .reserves .now) (a .helds .now) bytes full g (search .result) (search .ensures) (sym (c .enum-told .given .1))
+    record {
+      leaves = λ f rows places bytes full placing.
+          search-none f (a .day) rows places (a .q) (streams (a .table .now)) (a .y) (a .profile .now) (a .opens .now) (a .reserves .now) (a .helds .now) bytes full placing (search .result) (search .ensures) (sym (c .enum-told .given .1));
+      recordable = λ s e. let z : _≡_ {A = ℕ} 0 1 = cc in absurd (omega arith);
+    }
 
 pub place-on-spec : {M : Type 1} → statement M
 place-on-spec =
@@ -105,8 +89,6 @@ place-on-spec =
     enum-known-found
     start-at-requires
     add-stream-requires
-    add-t30
-    append-requires
     enum-told
     same-length
     same-length-2
