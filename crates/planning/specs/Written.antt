@@ -1,10 +1,11 @@
 -- The just-in-time totals where they are written: what each round holds, and what was sent before it. Assumes nothing.
-use mathlib.Core.Path.{_≡_, refl, ap}
+use mathlib.Core.Path.{_≡_, refl, ap, _∙_}
 use mathlib.Core.List.{List, [], _∷_, _++_}
 use Prim.Native.Nat.{ℕ, zero, suc, _+_, _-_, _*_, _≤_, _<_}
 use native.Mathlib.Nat.{not-suc-le-zero, le-of-suc-le-suc}
 use native.Mathlib.Omega.{arith}
-use lib.ListN.{length, getD, take, drop}
+use lib.ListN.{length, getD, take, drop, length-append, List·getD-append}
+use lib.Seq.{getD-take, length-take-le}
 use Rattle.laws.specs.Sums.{sum}
 use Rattle.films.specs.Sizes.{Stored}
 use Rattle.retrieval.specs.Schedule.{sends, totals}
@@ -13,12 +14,7 @@ use Rattle.retrieval.specs.Carry.{carry, profile}
 use Rattle.retrieval.specs.CarryLaws.{due-carry}
 use Rattle.retrieval.specs.Sheet.{plus}
 use Rattle.retrieval.specs.SheetLaws.{onto-nil}
-use Rattle.retrieval.specs.Stored.{InRange, maxHeld}
-
--- a list takes the p + n totals of a film
-pub record Writes (out s : List ℕ) (at n p b : ℕ) : Type 0 where
-  pub film : InRange s at n p b
-  pub places : p + n ≤ length out
+use Rattle.retrieval.specs.Stored.{maxHeld}
 
 -- what a film has sent before each of its rounds, C(t-1)
 abbrev pub sentBefore : List ℕ → List ℕ
@@ -33,6 +29,19 @@ pub record Holds (out s : List ℕ) (at n p : ℕ) : Type 0 where
   pub stored : Stored s at n
   pub places : p + n ≤ length out
   pub small : (t : ℕ) → t < p + n → getD out t 0 ≤ maxHeld
+
+-- a copy of them at the front of another list
+pub holds-copied : (held out s : List ℕ) (at n p : ℕ) → Holds held s at n p → p + n ≤ length out
+    → Holds (take (p + n) held ++ drop (p + n) out) s at n p
+holds-copied held out s at n p h l =
+    let m = length-take-le (p + n) held (h .places) in
+    record {
+      stored = h .stored;
+      places = omega (arith, length-append (take (p + n) held) (drop (p + n) out), m);
+      small = λ t i.
+          let e = List·getD-append (take (p + n) held) (drop (p + n) out) 0 t (omega (arith, m)) ∙ getD-take (p + n) held t 0 i in
+          omega (arith, h .small t i);
+    }
 
 -- ---- sums
 

@@ -1,13 +1,12 @@
 // The just-in-time totals of a film, written to a lent list.
 ghost use mathlib.Core.Path.{_≡_};
 ghost use mathlib.Core.List.{_++_};
-ghost use Prim.Native.Nat.{_+_};
-ghost use lib.ListN.{length, drop};
+ghost use Prim.Native.Nat.{_+_, _≤_};
+ghost use lib.ListN.{length, take, drop};
 ghost use Rattle.films.specs.Sizes.{sizes, Stored};
-ghost use Rattle.retrieval.specs.JustInTime.{justInTime};
 ghost use Rattle.retrieval.specs.Stored.{sendsAt};
 ghost use Rattle.retrieval.specs.Sheet.{plus};
-ghost use Rattle.planning.specs.Written.{sentBefore, Holds, Writes};
+ghost use Rattle.planning.specs.Written.{sentBefore, Holds};
 ghost use Rattle.planning.specs.Answers.{Planned, scheduled, scheduleOut};
 use films::catalogue::catalogue;
 use films::lookup::lookup;
@@ -15,12 +14,12 @@ use films::types::Lookup;
 use films::words::size_at;
 use limits::bounds::MAX_PREFETCH;
 use limits::bounds::MAX_RESERVE;
+use limits::bounds::MAX_ROUNDS;
 use limits::refusals::NO_FILM;
 use limits::refusals::NO_ROOM;
 use limits::refusals::NO_SCHEDULE;
 use limits::refusals::PREFETCH;
 use limits::refusals::RESERVE;
-use retrieval::exists;
 use retrieval::write_profile;
 
 // The answer of a call for a schedule: a refusal's number, or how many totals are written.
@@ -28,6 +27,9 @@ pub enum Scheduled {
     Refused(u32),
     Written(u64),
 }
+
+// rounds that a film is open, at most
+const MAX_LENGTH: usize = MAX_PREFETCH as usize + MAX_ROUNDS;
 
 // Adds to each of a film's rounds in a list what the film has sent before it. The rounds before the first that shows have nothing
 // before them.
@@ -44,13 +46,25 @@ fn add_sent(out: &mut [u64], file: &[u8], at: usize, n: usize, p: usize)
     }
 }
 
-// Writes the just-in-time totals of a film to the first p + n places of the list: of each round, what it holds and what was sent
-// before it.
-fn write_totals(out: &mut [u64], file: &[u8], at: usize, n: usize, p: usize, b: u64)
-    requires { ⌜ Writes (now out) (now file) at n p b ⌝ }
-    ensures { λ _. ⌜ now (out .exit) ≡ justInTime b 0 (sendsAt (now (file .entry)) at n p) ++ drop (p + n) (now (out .entry)) ⌝ }
+// Copies the first n numbers of one list to the first places of another.
+fn copy_first(out: &mut [u64], list: &[u64], n: usize)
+    requires { ⌜ (n ≤ length (now out)) × (n ≤ length (now list)) ⌝ }
+    ensures { λ _. ⌜ now (out .exit) ≡ take n (now (list .entry)) ++ drop n (now (out .entry)) ⌝ }
 {
-    write_profile(out, file, at, n, p, b);
+    let mut i = 0;
+    while i < n {
+        out[i] = list[i];
+        i += 1;
+    }
+}
+
+// Writes the just-in-time totals of a film to the first p + n places of the list: of each round, what it holds, which stands in
+// `held`, and what was sent before it.
+fn write_totals(out: &mut [u64], held: &[u64], file: &[u8], at: usize, n: usize, p: usize)
+    requires { ⌜ Holds (now held) (now file) at n p × (p + n ≤ length (now out)) ⌝ }
+    ensures { λ _. ⌜ now (out .exit) ≡ plus (take (p + n) (now (held .entry)) ++ drop (p + n) (now (out .entry))) (sentBefore (sendsAt (now (file .entry)) at n p)) ⌝ }
+{
+    copy_first(out, held, p + n);
     add_sent(out, file, at, n, p);
 }
 
@@ -69,10 +83,11 @@ fn plan(file: &[u8], at: usize, n: usize, p: u64, b: u64, out: &mut [u64]) -> Sc
     if out.len() < ahead + n {
         return Scheduled::Refused(NO_ROOM);
     }
-    if !exists(file, at, n, ahead, b) {
+    let mut held = [0u64; MAX_LENGTH];
+    if !write_profile(&mut held, file, at, n, ahead, b) {
         return Scheduled::Refused(NO_SCHEDULE);
     }
-    write_totals(out, file, at, n, ahead, b);
+    write_totals(out, &held, file, at, n, ahead);
     Scheduled::Written((ahead + n) as u64)
 }
 
