@@ -3,7 +3,7 @@ use mathlib.Core.Path.{_≡_, refl, sym, ap, _∙_}
 use mathlib.Core.List.{List, [], _++_, append-nil}
 use Prim.Native.Nat.{ℕ, _+_, _≤_}
 use native.Mathlib.Omega.{arith}
-use lib.ListN.{length, take, drop}
+use lib.ListN.{length, set, take, drop}
 use lib.Seq.{take-append-add, take-at}
 use borrow.Author.Tests.{le-leb}
 use Rattle.limits.specs.Bounds.{hallPlaces}
@@ -14,7 +14,7 @@ use Rattle.model.specs.declared.Answer.{Answer}
 use Rattle.model.specs.declared.Answer.the-variants.{Refused}
 use Rattle.model.specs.declared.Request.{Request}
 use Rattle.questions.specs.Given.{settingAt}
-use Rattle.booking.specs.Contract.{Leaves}
+use Rattle.booking.specs.Contract.{Leaves, dayBooked, rowsBooked}
 use Rattle.dropping.specs.Contract.{Drops}
 use Rattle.dropping.specs.declared.DropOutcome.{DropOutcome}
 use Rattle.playing.specs.declared.Played as P
@@ -34,7 +34,8 @@ use Rattle.console.specs.declared.Session.{Session}
 use Rattle.console.specs.Stepping.{step-done}
 use Rattle.console.specs.Laws.{book-silent, drop-silent, told}
 use Rattle.console.specs.Carrying.{book-carries, drop-carries, play-carries, bad-carries}
-use Rattle.answering.specs.Contract.{sessionAt}
+use Rattle.answering.specs.Contract.{sessionAt, Records, AnswersBook}
+use Rattle.answering.specs.declared.Recorded.{Recorded}
 
 -- the text of an answer with no line of a report
 reply-silent : (name round : ℕ) (a : Answer) (lines : List Line) → linesIn a ≡ 0 → answerText name round a ≡ replyText name round a lines
@@ -106,6 +107,19 @@ module _ (file : List ℕ) (day : Day) (rows : List Booking) (opens reserves hel
       let none : linesIn a ≡ 0 = ap linesIn (w .answer) ∙ book-silent S lent q in
       step-silent file s (Book q) after left a opens′ reserves′ helds′
       (book-carries file session opens reserves helds q a after left opens′ reserves′ helds′ w) none buffer room new n v
+
+  -- the same, with one record written
+  pub record-step : (q : Request) (first : Booking) (a : Answer) (n : ℕ) (r : Recorded) → Records day first q a n r → set rows 0 first ≡ rows
+      → (opens′ reserves′ helds′ : List ℕ) → Leaves S (bookCall S lent q) a (dayBooked day a) (rowsBooked day rows q a) opens′ reserves′ helds′
+      → (new : List ℕ) → Wrote buffer 0 (answerText (q .name) (day .now) a) new n
+      → AnswersBook file day rows opens reserves helds q buffer r opens′ reserves′ helds′ new
+  record-step q first a n r w stays opens′ reserves′ helds′ leaves new v =
+      record {
+        step =
+            (λ i. record { state = sessionAt (w .counted i) (w .written rows stays i) opens′ reserves′ helds′; buffer = new; count = w .told i })
+            ∙ book-step q a (dayBooked day a) (rowsBooked day rows q a) opens′ reserves′ helds′ leaves new n v;
+        inside = w .inside;
+      }
 
   pub drop-step : (name : ℕ) (r : DropOutcome) (opens′ reserves′ helds′ : List ℕ) → Drops S lent name r opens′ reserves′ helds′
       → (new : List ℕ) (n : ℕ) → Wrote buffer 0 (answerText name (day .now) (r .answer)) new n

@@ -1,5 +1,6 @@
 // A command carried out on a session that only the program's commands have changed, and answered.
-use booking::book_kept;
+use booking::append::record_of;
+use booking::book_tabled;
 use commands::Command;
 use console::Session;
 use console::answer::write_first;
@@ -8,16 +9,23 @@ use dropping::drop_kept;
 use films::types::Catalogue;
 use limits::bounds::HALL_PLACES;
 use limits::bounds::MAX_BOOKINGS;
+use model::Answer;
 use model::Booking;
 use model::Day;
 use model::Request;
-ghost use Prim.Native.Nat.{_≤_, _<_};
+use table::tabulate::tabulate;
+ghost use mathlib.Core.Path.{_≡_};
+ghost use Prim.Native.Nat.{ℕ, _≤_, _<_};
 ghost use lib.ListN.{length};
-ghost use Rattle.commands.specs.declared.Command.the-variants.{Book, Drop};
-ghost use Rattle.booking.specs.Own.{maxLength};
+ghost use Rattle.model.specs.declared.Answer.the-variants.{Booked};
+ghost use Rattle.model.specs.declared.Request.{Request};
 ghost use Rattle.table.specs.Columns.{tableWords};
+ghost use Rattle.booking.specs.Contract.{Recordable};
+ghost use Rattle.booking.specs.Own.{maxLength};
+ghost use Rattle.commands.specs.declared.Command.the-variants.{Book, Drop};
 ghost use Rattle.text.specs.Digits.{outputBytes};
-ghost use Rattle.answering.specs.Contract.{sessionAt, AnswersOnly};
+ghost use Rattle.answering.specs.Contract.{sessionAt, AnswersOnly, Records, AnswersBook};
+ghost use Rattle.answering.specs.declared.Order.the-variants.{Wanted};
 ghost use Rattle.answering.specs.Kept.{Ready};
 
 // places of the program's list of bookings, and of its report
@@ -31,6 +39,21 @@ pub struct Answered {
     pub length: usize,
     pub from: usize,
     pub to: usize,
+}
+
+// What a BOOK on a day leaves: how many bytes of text answer it, how many bookings the day counts, and one record and its place: the
+// request's where it is accepted, and else the first as it stands.
+pub struct Recorded {
+    pub length: usize,
+    pub count: u64,
+    pub place: usize,
+    pub record: Booking,
+}
+
+// What a command orders: a booking on a day, or something else.
+pub enum Order {
+    Wanted(Request),
+    Other,
 }
 
 // Any command, as `step` carries it out.
@@ -68,8 +91,56 @@ fn step_any(
     }
 }
 
-// BOOK name film p b cabs first last, on a day; `table` and `profile` are workspace, whatever stands there
-fn step_book(
+// The request of a BOOK on a day.
+pub fn order_of(day: Day, command: Command) -> Order
+    ensures { λ r. ⌜ ((q : Request) → r ≡ Wanted q → (command ≡ Book q) × (0 < day .rounds)) ⌝ }
+{
+    if day.rounds == 0 {
+        return Order::Other;
+    }
+    match command {
+        Command::Book(q) => Order::Wanted(q),
+        Command::Drop(_) => Order::Other,
+        Command::Open(_, _, _) => Order::Other,
+        Command::Play => Order::Other,
+        Command::Bad => Order::Other,
+    }
+}
+
+// No record is written, and the first stays as it stands.
+fn same_records(day: Day, first: Booking, length: usize) -> Recorded
+    ensures { λ r. ⌜ (r .length ≡ length) × (r .count ≡ day .count) × (r .place ≡ 0) × (r .record ≡ first) ⌝ }
+{
+    Recorded {
+        length,
+        count: day.count,
+        place: 0,
+        record: first,
+    }
+}
+
+// What an answer to a request writes; `first` is the first record.
+fn record_answer(day: Day, first: Booking, q: Request, answer: Answer, length: usize) -> Recorded
+    requires { ⌜ ((s : ℕ) → answer ≡ Booked s → Recordable day q s) ⌝ }
+    ensures { λ r. ⌜ Records day first q answer length r ⌝ }
+{
+    match answer {
+        Answer::Booked(s) => Recorded {
+            length,
+            count: day.count + 1,
+            place: day.count as usize,
+            record: record_of(q, s),
+        },
+        Answer::Refused(_) => same_records(day, first, length),
+        Answer::Opened => same_records(day, first, length),
+        Answer::Dropped => same_records(day, first, length),
+        Answer::Played(_, _) => same_records(day, first, length),
+    }
+}
+
+// BOOK name film p b cabs first last, on a day. The record is the caller's to write, so that the records' places are not copied back;
+// `table` and `profile` are workspace, whatever stands there.
+pub fn step_book(
     file: &[u8],
     c: Catalogue,
     day: Day,
@@ -81,15 +152,15 @@ fn step_book(
     reserves: &mut [u64],
     helds: &mut [u64],
     out: &mut [u8],
-) -> Answered
+) -> Recorded
     requires { ⌜ (outputBytes ≤ length (now out)) × (0 < day .rounds) × Ready (now file) c (sessionAt day rows (now opens) (now reserves) (now helds)) × (tableWords ≤ length (now table)) × (maxLength ≤ length (now profile)) ⌝ }
-    ensures { λ r. ⌜ AnswersOnly (now (file .entry)) (sessionAt day rows (now (opens .entry)) (now (reserves .entry)) (now (helds .entry))) (Book q) (now (out .entry)) r (now (opens .exit)) (now (reserves .exit)) (now (helds .exit)) (now (out .exit)) ⌝ }
+    ensures { λ r. ⌜ AnswersBook (now (file .entry)) day rows (now (opens .entry)) (now (reserves .entry)) (now (helds .entry)) q (now (out .entry)) r (now (opens .exit)) (now (reserves .exit)) (now (helds .exit)) (now (out .exit)) ⌝ }
 {
-    let booked = book_kept(
+    tabulate(c, rows, day.count as usize, table);
+    let answer = book_tabled(
         file,
         c,
         day,
-        rows,
         PLACES,
         q,
         table,
@@ -98,17 +169,9 @@ fn step_book(
         reserves,
         helds,
     );
-    let after = booked.day;
-    let left = booked.rows;
-    let answer = booked.answer;
     let length = write_first(out, q.name, day.now, answer);
-    Answered {
-        day: after,
-        rows: left,
-        length,
-        from: 0,
-        to: 0,
-    }
+    let first = rows[0];
+    record_answer(day, first, q, answer, length)
 }
 
 // DROP name, on a day
@@ -127,10 +190,10 @@ fn step_drop(
     ensures { λ r. ⌜ AnswersOnly (now (file .entry)) (sessionAt day rows (now (opens .entry)) (now (reserves .entry)) (now (helds .entry))) (Drop name) (now (out .entry)) r (now (opens .exit)) (now (reserves .exit)) (now (helds .exit)) (now (out .exit)) ⌝ }
 {
     let dropped = drop_kept(file, c, day, rows, PLACES, name, opens, reserves, helds);
-    let after = dropped.day;
-    let left = dropped.rows;
     let answer = dropped.answer;
     let length = write_first(out, name, day.now, answer);
+    let after = dropped.day;
+    let left = dropped.rows;
     Answered {
         day: after,
         rows: left,
@@ -140,43 +203,26 @@ fn step_drop(
     }
 }
 
-// Carries any command out as `step` does; a booking or a drop on a day asks no question that would pass.
-// `table` and `profile` are workspace, whatever stands there.
+// Carries any command out as `step` does; a drop on a day asks no question that would pass. A booking on a day is `step_book`'s.
 pub fn step_rows(
     file: &[u8],
     c: Catalogue,
     day: Day,
     rows: [Booking; MAX_BOOKINGS],
     command: Command,
-    table: &mut [u64],
-    profile: &mut [u64],
     opens: &mut [u64],
     reserves: &mut [u64],
     helds: &mut [u64],
     out: &mut [u8],
 ) -> Answered
-    requires { ⌜ (outputBytes ≤ length (now out)) × Ready (now file) c (sessionAt day rows (now opens) (now reserves) (now helds)) × (tableWords ≤ length (now table)) × (maxLength ≤ length (now profile)) ⌝ }
+    requires { ⌜ (outputBytes ≤ length (now out)) × Ready (now file) c (sessionAt day rows (now opens) (now reserves) (now helds)) ⌝ }
     ensures { λ r. ⌜ AnswersOnly (now (file .entry)) (sessionAt day rows (now (opens .entry)) (now (reserves .entry)) (now (helds .entry))) command (now (out .entry)) r (now (opens .exit)) (now (reserves .exit)) (now (helds .exit)) (now (out .exit)) ⌝ }
 {
     if day.rounds == 0 {
         return step_any(file, day, rows, command, opens, reserves, helds, out);
     }
     match command {
-        Command::Book(q) => {
-            step_book(
-                file,
-                c,
-                day,
-                rows,
-                q,
-                table,
-                profile,
-                opens,
-                reserves,
-                helds,
-                out,
-            )
-        }
+        Command::Book(_) => step_any(file, day, rows, command, opens, reserves, helds, out),
         Command::Drop(name) => step_drop(file, c, day, rows, name, opens, reserves, helds, out),
         Command::Open(_, _, _) => {
             step_any(file, day, rows, command, opens, reserves, helds, out)

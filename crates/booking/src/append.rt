@@ -11,7 +11,7 @@ ghost use Rattle.model.specs.Day.{recordOf};
 ghost use Rattle.search.specs.Fit.{startAt};
 
 // The record of a request at a start.
-fn record_of(q: Request, s: u64) -> Booking
+pub fn record_of(q: Request, s: u64) -> Booking
     requires { ⌜ (q .film < 2 ^ 16) × (q .prefetch ≤ maxPrefetch) × (q .reserve ≤ maxReserve) × (s ≤ maxDay) ⌝ }
     ensures { λ r. ⌜ r ≡ recordOf q s ⌝ }
 {

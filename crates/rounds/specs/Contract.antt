@@ -10,7 +10,6 @@ use Rattle.model.specs.declared.Day.{Day}
 use Rattle.playing.specs.Ready as standing
 use Rattle.table.specs.Table.{rowWords, Rows, Tabled}
 use Rattle.player.specs.Ahead.{Ahead}
-use Rattle.booking.specs.Own.{maxLength}
 use Rattle.commands.specs.declared.Command.{Command}
 use Rattle.commands.specs.declared.Command.the-variants.{Play}
 use Rattle.console.specs.Contract.{stepOf}
@@ -37,10 +36,9 @@ pub record Known (f : List ℕ) (c : Catalogue) (day : Day) (rows : List Booking
   pub looked : from < to → Looked f table ahead (day .count) from to
   pub tabled : from < to → Tabled c (take (day .count) rows) table
 
--- the lists are long enough, `ahead` for the rounds of a booking too
-pub record Room (table ahead words : List ℕ) : Type 0 where
+-- the lists are long enough
+pub record Room (table words : List ℕ) : Type 0 where
   pub for-table : rowWords * maxBookings ≤ length table
-  pub for-profile : maxLength ≤ length ahead
   pub for-words : 4 * hallPlaces ≤ length words
 
 -- the current round is one of those from `from` to `to` - 1, and of the day

@@ -230,8 +230,7 @@ fn prepare(
     from + width
 }
 
-// Carries any command out as `step_rows` does. After a PLAY, table and words ahead are right for the rounds from the played one on;
-// for any other command they are workspace.
+// Carries any command out as `step_rows` does. After a PLAY, table and words ahead are right for the rounds from the played one on.
 pub fn step_ahead(
     file: &[u8],
     c: Catalogue,
@@ -246,41 +245,17 @@ pub fn step_ahead(
     helds: &mut [u64],
     out: &mut [u8],
 ) -> Answered
-    requires { ⌜ (outputBytes ≤ length (now out)) × Room (now table) (now ahead) (now words) × Ready (now file) c (sessionAt day rows (now opens) (now reserves) (now helds)) ⌝ }
+    requires { ⌜ (outputBytes ≤ length (now out)) × Room (now table) (now words) × Ready (now file) c (sessionAt day rows (now opens) (now reserves) (now helds)) ⌝ }
     ensures { λ r. ⌜ Answers (now (file .entry)) c day rows (now (opens .entry)) (now (reserves .entry)) (now (helds .entry)) command (now (out .entry)) r (now (table .exit)) (now (ahead .exit)) (now (opens .exit)) (now (reserves .exit)) (now (helds .exit)) (now (out .exit)) ⌝ }
 {
     if !plays_today(day, command) {
-        return step_rows(
-            file,
-            c,
-            day,
-            rows,
-            command,
-            table,
-            ahead,
-            opens,
-            reserves,
-            helds,
-            out,
-        );
+        return step_rows(file, c, day, rows, command, opens, reserves, helds, out);
     }
     let to = prepare(file, c, day, rows, table, ahead);
     let from = day.now as usize;
     let played = play_ahead(file, day, table, ahead, from, to, words, out);
     if played.length == 0 {
-        return step_rows(
-            file,
-            c,
-            day,
-            rows,
-            command,
-            table,
-            ahead,
-            opens,
-            reserves,
-            helds,
-            out,
-        );
+        return step_rows(file, c, day, rows, command, opens, reserves, helds, out);
     }
     let after = at_round(day, played.now);
     Answered {

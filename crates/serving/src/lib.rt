@@ -1,4 +1,7 @@
 // The input served as it comes: each line is answered when it ends, and the answers are collected in a buffer.
+use answering::Order;
+use answering::order_of;
+use answering::step_book;
 use commands::parse;
 use console::OUTPUT_BYTES;
 use console::Session;
@@ -61,6 +64,30 @@ pub fn serve_bytes(
         kept = taken.held;
         at = taken.next;
         if !taken.ended {
+            continue;
+        }
+        let order = order_of(day, command);
+        if let Order::Wanted(q) = order {
+            let booked = step_book(
+                file,
+                c,
+                day,
+                rows,
+                q,
+                &mut table,
+                &mut ahead,
+                opens,
+                reserves,
+                helds,
+                &mut out[used..],
+            );
+            let place = booked.place;
+            let booking = booked.record;
+            rows[place] = booking;
+            day.count = booked.count;
+            used += booked.length;
+            from = 0;
+            to = 0;
             continue;
         }
         let reply = try_ahead(

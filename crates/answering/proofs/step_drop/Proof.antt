@@ -33,7 +33,7 @@ same-length-4 c = search needs
 
 returns : tie.Need-returns
 returns c =
-    let wrote = c .before .before .write-first in
+    let wrote = c .before .before .before .before .write-first in
     let dropped = c .before .before .before .before .before .before .before .before .before .before .before .before .drop-kept in
     let start = c .before .before .before .before .before .before .before .before .before .before .before .before .before .before .before .before .before .before .before .before .before in
     let a = start .args in

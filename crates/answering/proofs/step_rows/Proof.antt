@@ -21,23 +21,17 @@ same-length-4 c = search needs
 returns : tie.Need-returns
 returns c = search needs
 
-enum-known-command : tie.Need-enum-known-command
-enum-known-command c = search needs
-
-step-book-requires : tie.Need-step-book-requires
-step-book-requires c κs = search needs
-
-enum-known-command-2 : tie.Need-enum-known-command-2
-enum-known-command-2 c = search needs
-
-step-drop-requires : tie.Need-step-drop-requires
-step-drop-requires c κs = search needs
-
 enum-told : tie.Need-enum-told
 enum-told c = search needs
 
 step-any-requires-2 : tie.Need-step-any-requires-2
 step-any-requires-2 c κs = search needs
+
+enum-known-command : tie.Need-enum-known-command
+enum-known-command c = search needs
+
+step-drop-requires : tie.Need-step-drop-requires
+step-drop-requires c κs = search needs
 
 enum-told-2 : tie.Need-enum-told-2
 enum-told-2 c = search needs
@@ -51,6 +45,12 @@ enum-told-3 c = search needs
 step-any-requires-4 : tie.Need-step-any-requires-4
 step-any-requires-4 c κs = search needs
 
+enum-told-4 : tie.Need-enum-told-4
+enum-told-4 c = search needs
+
+step-any-requires-5 : tie.Need-step-any-requires-5
+step-any-requires-5 c κs = search needs
+
 same-length-5 : tie.Need-same-length-5
 same-length-5 c = search needs
 
@@ -63,14 +63,14 @@ same-length-7 c = search needs
 same-length-8 : tie.Need-same-length-8
 same-length-8 c = search needs
 
+returns-2 : tie.Need-returns-2
+returns-2 c = search needs
+
 same-length-9 : tie.Need-same-length-9
 same-length-9 c = search needs
 
 same-length-10 : tie.Need-same-length-10
 same-length-10 c = search needs
-
-returns-2 : tie.Need-returns-2
-returns-2 c = rw (c .before .before .before .before .before .before .before .before .before .before .before .before .before .before .before .before .before .before .before .before .command .given .1) (c .before .before .before .before .before .before .before .before .before .before .before .before .step-book .ensures)
 
 same-length-11 : tie.Need-same-length-11
 same-length-11 c = search needs
@@ -78,14 +78,14 @@ same-length-11 c = search needs
 same-length-12 : tie.Need-same-length-12
 same-length-12 c = search needs
 
+returns-3 : tie.Need-returns-3
+returns-3 c = rw (c .before .before .before .before .before .before .before .before .before .before .before .before .before .before .command .given .1) (c .before .before .before .before .before .before .before .before .step-drop .ensures)
+
 same-length-13 : tie.Need-same-length-13
 same-length-13 c = search needs
 
 same-length-14 : tie.Need-same-length-14
 same-length-14 c = search needs
-
-returns-3 : tie.Need-returns-3
-returns-3 c = rw (c .before .before .before .before .before .before .before .before .before .before .before .before .before .before .command2 .given .1) (c .before .before .before .before .before .before .before .before .step-drop .ensures)
 
 same-length-15 : tie.Need-same-length-15
 same-length-15 c = search needs
@@ -93,14 +93,14 @@ same-length-15 c = search needs
 same-length-16 : tie.Need-same-length-16
 same-length-16 c = search needs
 
+returns-4 : tie.Need-returns-4
+returns-4 c = search needs
+
 same-length-17 : tie.Need-same-length-17
 same-length-17 c = search needs
 
 same-length-18 : tie.Need-same-length-18
 same-length-18 c = search needs
-
-returns-4 : tie.Need-returns-4
-returns-4 c = search needs
 
 same-length-19 : tie.Need-same-length-19
 same-length-19 c = search needs
@@ -108,26 +108,20 @@ same-length-19 c = search needs
 same-length-20 : tie.Need-same-length-20
 same-length-20 c = search needs
 
+returns-5 : tie.Need-returns-5
+returns-5 c = search needs
+
 same-length-21 : tie.Need-same-length-21
 same-length-21 c = search needs
 
 same-length-22 : tie.Need-same-length-22
 same-length-22 c = search needs
 
-returns-5 : tie.Need-returns-5
-returns-5 c = search needs
-
 same-length-23 : tie.Need-same-length-23
 same-length-23 c = search needs
 
 same-length-24 : tie.Need-same-length-24
 same-length-24 c = search needs
-
-same-length-25 : tie.Need-same-length-25
-same-length-25 c = search needs
-
-same-length-26 : tie.Need-same-length-26
-same-length-26 c = search needs
 
 returns-6 : tie.Need-returns-6
 returns-6 c = search needs
@@ -142,40 +136,38 @@ step-rows-spec =
     same-length-3
     same-length-4
     returns
-    enum-known-command
-    step-book-requires
-    enum-known-command-2
-    step-drop-requires
     enum-told
     step-any-requires-2
+    enum-known-command
+    step-drop-requires
     enum-told-2
     step-any-requires-3
     enum-told-3
     step-any-requires-4
+    enum-told-4
+    step-any-requires-5
     same-length-5
     same-length-6
     same-length-7
     same-length-8
+    returns-2
     same-length-9
     same-length-10
-    returns-2
     same-length-11
     same-length-12
+    returns-3
     same-length-13
     same-length-14
-    returns-3
     same-length-15
     same-length-16
+    returns-4
     same-length-17
     same-length-18
-    returns-4
     same-length-19
     same-length-20
+    returns-5
     same-length-21
     same-length-22
-    returns-5
     same-length-23
     same-length-24
-    same-length-25
-    same-length-26
     returns-6)

@@ -1,6 +1,5 @@
 -- `rounds::step_ahead` meets its contract: a PLAY of a round of the day is played from the table written anew, and any other command is
 -- carried out as before. Assumes nothing.
-use mathlib.Core.Path.{_∙_}
 use Prim.Native.Nat.{_<_}
 use native.Mathlib.Omega.{arith}
 use borrow.Author.Tests.{not-false}
@@ -13,9 +12,7 @@ plays-today-requires : tie.Need-plays-today-requires
 plays-today-requires c κs = search needs
 
 step-rows-requires : tie.Need-step-rows-requires
-step-rows-requires c κs =
-    let start = c .before .before .before .before .before .before .before .before .before .before .before .before .before .before .before .before in
-    (start .pre .0, start .pre .2, omega (arith, start .pre .1 .for-table), start .pre .1 .for-profile)
+step-rows-requires c κs = search needs
 
 same-length : tie.Need-same-length
 same-length c = search needs
@@ -29,17 +26,11 @@ same-length-3 c = search needs
 same-length-4 : tie.Need-same-length-4
 same-length-4 c = search needs
 
-same-length-5 : tie.Need-same-length-5
-same-length-5 c = search needs
-
-same-length-6 : tie.Need-same-length-6
-same-length-6 c = search needs
-
 returns : tie.Need-returns
 returns c =
-    let a = c .before .before .before .before .before .before .before .before .before .before .before .before .before .before .before .before .before .before .before .before .before .before .before .before .before .before .before .before .before .args in
-    let stepped = c .before .before .before .before .before .before .before .before .before .before .before .before .step-rows in
-    answers-only (a .file .now) (a .c) (a .day) (a .rows) (a .opens .now) (a .reserves .now) (a .helds .now) (a .command) (a .out .now) (stepped .result) _ _ _ _ _ _ (stepped .ensures)
+    let a = c .before .before .before .before .before .before .before .before .before .before .before .before .before .before .before .before .before .before .before .before .before .before .before .args in
+    let stepped = c .before .before .before .before .before .before .before .before .step-rows in
+    answers-only (a .file .now) (a .c) (a .day) (a .rows) (a .opens .now) (a .reserves .now) (a .helds .now) (a .command) (a .out .now) (stepped .result) (a .table .now) (a .ahead .now) _ _ _ _ (stepped .ensures)
 
 prepare-requires : tie.Need-prepare-requires
 prepare-requires c κs =
@@ -62,19 +53,20 @@ play-ahead-requires c κs =
 
 step-rows-requires-2 : tie.Need-step-rows-requires-2
 step-rows-requires-2 c κs =
-    let start = c .before .before .before .before .before .before .before .before .before .before .before .before .before .before .before .before .before .before .before .before .before .before .before .before .before .before .before .before .before .before .before .before .before .before in
-    let prepared = c .before .before .before .before .before .before .before .before .before .before .before .before .before .before .before .before .before .before .before .before .before .prepare .kept in (
-      omega (arith, start .pre .0, c .before .before .before .before .before .before .before .before .before .before .before .before .play-ahead .kept .1 .1 .1 .1 .1 .1 .1 .0),
-      start .pre .2,
-      omega (arith, start .pre .1 .for-table, prepared .1 .1 .1 .1 .0),
-      omega (arith, start .pre .1 .for-profile, prepared .1 .1 .1 .1 .1 .0),
-    )
+    let start = c .before .before .before .before .before .before .before .before .before .before .before .before .before .before .before .before .before .before .before .before .before .before .before .before .before .before .before .before .before .before .before .before in
+    (omega (arith, start .pre .0, c .before .before .before .before .before .before .before .before .before .before .play-ahead .kept .1 .1 .1 .1 .1 .1 .1 .0), start .pre .2)
+
+same-length-5 : tie.Need-same-length-5
+same-length-5 c = c .before .before .before .before .before .before .before .before .before .before .before .before .before .before .before .before .before .before .before .before .before .before .before .before .before .before .before .before .prepare .kept .1 .1 .1 .1 .0
+
+same-length-6 : tie.Need-same-length-6
+same-length-6 c = c .before .before .before .before .before .before .before .before .before .before .before .before .before .before .before .before .before .before .before .before .before .before .before .before .before .before .before .before .prepare .kept .1 .1 .1 .1 .1 .0
 
 same-length-7 : tie.Need-same-length-7
-same-length-7 c = c .before .before .before .before .before .before .before .before .before .before .before .before .step-rows2 .kept .1 .1 .1 .1 .1 .0 ∙ c .before .before .before .before .before .before .before .before .before .before .before .before .before .before .before .before .before .before .before .before .before .before .before .before .before .before .before .before .before .before .before .before .before .before .prepare .kept .1 .1 .1 .1 .0
+same-length-7 c = search needs
 
 same-length-8 : tie.Need-same-length-8
-same-length-8 c = c .before .before .before .before .before .before .before .before .before .before .before .before .step-rows2 .kept .1 .1 .1 .1 .1 .1 .0 ∙ c .before .before .before .before .before .before .before .before .before .before .before .before .before .before .before .before .before .before .before .before .before .before .before .before .before .before .before .before .before .before .before .before .before .before .prepare .kept .1 .1 .1 .1 .1 .0
+same-length-8 c = search needs
 
 same-length-9 : tie.Need-same-length-9
 same-length-9 c = search needs
@@ -85,33 +77,28 @@ same-length-10 c = search needs
 same-length-11 : tie.Need-same-length-11
 same-length-11 c = search needs
 
+returns-2 : tie.Need-returns-2
+returns-2 c =
+    let a = c .before .before .before .before .before .before .before .before .before .before .before .before .before .before .before .before .before .before .before .before .before .before .before .before .before .before .before .before .before .before .before .before .before .before .before .before .before .before .before .before .before .args in
+    let played = c .before .before .before .before .before .before .before .before .before .before .before .before .before .before .before .before .before .before .before .play-ahead in
+    let stepped = c .before .before .before .before .before .before .before .before .step-rows2 in
+    answers-only (a .file .now) (a .c) (a .day) (a .rows) (a .opens .now) (a .reserves .now) (a .helds .now) (a .command) (a .out .now) (stepped .result) _ _ _ _ _ _
+    (rw (played .ensures .left (c .before .before .before .before .before .before .before .before .before .before .before .before .before .if2 .taken)) at (stepped .ensures))
+
+at-round-requires : tie.Need-at-round-requires
+at-round-requires c κs = search needs
+
 same-length-12 : tie.Need-same-length-12
 same-length-12 c = search needs
 
 same-length-13 : tie.Need-same-length-13
 same-length-13 c = search needs
 
-returns-2 : tie.Need-returns-2
-returns-2 c =
-    let a = c .before .before .before .before .before .before .before .before .before .before .before .before .before .before .before .before .before .before .before .before .before .before .before .before .before .before .before .before .before .before .before .before .before .before .before .before .before .before .before .before .before .before .before .before .before .before .before .args in
-    let stepped = c .before .before .before .before .before .before .before .before .before .before .before .before .step-rows2 in
-    answers-only (a .file .now) (a .c) (a .day) (a .rows) (a .opens .now) (a .reserves .now) (a .helds .now) (a .command) (a .out .now) (stepped .result) _ _ _ _ _ _
-    (rw (c .before .before .before .before .before .before .before .before .before .before .before .before .before .before .before .before .before .before .before .before .before .before .before .before .before .play-ahead .ensures .left (c .before .before .before .before .before .before .before .before .before .before .before .before .before .before .before .before .before .before .before .if2 .taken)) at (stepped .ensures))
-
-at-round-requires : tie.Need-at-round-requires
-at-round-requires c κs = search needs
-
 same-length-14 : tie.Need-same-length-14
 same-length-14 c = search needs
 
 same-length-15 : tie.Need-same-length-15
 same-length-15 c = search needs
-
-same-length-16 : tie.Need-same-length-16
-same-length-16 c = search needs
-
-same-length-17 : tie.Need-same-length-17
-same-length-17 c = search needs
 
 returns-3 : tie.Need-returns-3
 returns-3 c =
@@ -137,23 +124,21 @@ step-ahead-spec =
     same-length-2
     same-length-3
     same-length-4
-    same-length-5
-    same-length-6
     returns
     prepare-requires
     play-ahead-requires
     step-rows-requires-2
+    same-length-5
+    same-length-6
     same-length-7
     same-length-8
     same-length-9
     same-length-10
     same-length-11
-    same-length-12
-    same-length-13
     returns-2
     at-round-requires
+    same-length-12
+    same-length-13
     same-length-14
     same-length-15
-    same-length-16
-    same-length-17
     returns-3)

@@ -1,14 +1,17 @@
 -- `serving::serve_bytes` meets its contract. The invariant: the bytes passed are served (`Going`), and what is kept between rounds is right
 -- for the session that they leave (`Known`). The measure is what is left of the bytes. Assumes nothing.
 use Prim.Native.Nat.{_+_, _-_, _≤_}
-use mathlib.Core.Path.{_≡_, refl, sym, _∙_}
+use mathlib.Core.Path.{_≡_, refl, sym, ap, _∙_}
 use native.Mathlib.Omega.{arith}
-use lib.ListN.{length, take}
+use lib.ListN.{length, set, take}
+use borrow.Author.Needs.{needs}
 use borrow.Author.Tests.{not-true, not-false, leb-true, leb-false}
 use borrow.Rule.Slice.PartMut.{midOf, putMid}
 use Rattle.laws.specs.Parts.{tail-length, tail-back}
 use Rattle.text.specs.Digits.{outputBytes}
-use Rattle.answering.specs.Contract.{sessionAt}
+use Rattle.commands.specs.declared.Command.{Command}
+use Rattle.console.specs.Contract.{stepOf}
+use Rattle.answering.specs.Contract.{sessionAt, counting}
 use Rattle.rounds.specs.Contract.{atRound, Known}
 use Rattle.serving.specs.Turns.{Going, going-first, turn-on, turn-count, turn-line, back-length, back-front}
 use Rattle.serving.proofs.serve_bytes.Statement.{statement}
@@ -72,73 +75,168 @@ loop-again c =
       l .inv .9,
     )
 
+order-of-requires : tie.Need-order-of-requires Inv-loop μ-loop
+order-of-requires c κs = search needs
+
+enum-known-order : tie.Need-enum-known-order Inv-loop μ-loop
+enum-known-order c = search needs
+
+slice-aggregate-step-book : tie.Need-slice-aggregate-step-book Inv-loop μ-loop
+slice-aggregate-step-book c = sym (c .before .before .before .before .before .before .before .before .before .before .before .before .before .loop .inv .6)
+
+slice-aggregate-step-book-2 : tie.Need-slice-aggregate-step-book-2 Inv-loop μ-loop
+slice-aggregate-step-book-2 c = sym (c .before .before .before .before .before .before .before .before .before .before .before .before .before .before .loop .inv .7)
+
+sub-step-book : tie.Need-sub-step-book Inv-loop μ-loop
+sub-step-book c = omega (arith, c .before .before .before .before .before .before .before .before .before .before .before .before .before .before .before .before .before .loop .inv .5 .room)
+
+part-step-book-start : tie.Need-part-step-book-start Inv-loop μ-loop
+part-step-book-start c = omega (arith, c .before .before .before .before .before .before .before .before .before .before .before .before .before .before .before .before .before .loop .inv .5 .room)
+
+part-step-book-end : tie.Need-part-step-book-end Inv-loop μ-loop
+part-step-book-end c = omega (arith, c .before .before .before .before .before .before .before .before .before .before .before .before .before .before .before .before .before .loop .inv .5 .room)
+
+step-book-requires : tie.Need-step-book-requires Inv-loop μ-loop
+step-book-requires c κs =
+    let l = c .before .before .before .before .before .before .before .before .before .before .before .before .before .before .before .before .before .before .loop in
+    let at = c .before .before .before .before .before .before .before .order .given in
+    let wanted = c .before .before .before .before .before .before .before .before .before .order-of .ensures (at .0 .0) (at .1) in
+    let left = leb-true outputBytes (length (l .out) - l .used) (c .before .before .before .before .before .before .before .before .before .before .before .before .before .before .before .before .if1 .taken) in
+    (omega (arith, left, tail-length (l .used) (l .out)), wanted .1, l .inv .5 .ready, omega (arith, l .inv .6), omega (arith, l .inv .7))
+
+mul-rows : tie.Need-mul-rows Inv-loop μ-loop
+mul-rows c = omega (arith, c .before .before .before .before .before .before .before .before .before .before .before .step-book .ensures .inside)
+
+array-set-from-rows : tie.Need-array-set-from-rows Inv-loop μ-loop
+array-set-from-rows c = omega (arith, c .before .before .before .before .before .before .before .before .before .before .before .step-book .ensures .inside)
+
+add-used : tie.Need-add-used Inv-loop μ-loop
+add-used c =
+    let l = c .before .before .before .before .before .before .before .before .before .before .before .before .before .before .before .before .before .before .before .before .before .before .before .before .before .before .before .before .before .before .before .loop in
+    let g = l .inv .5 in
+    let a = c .before .before .before .before .before .before .before .before .before .before .before .before .before .before .before .before .before .before .before .before .before .before .before .before .before .before .before .before .before .before .before .before .before .before .before .before .before .before .before .before .before .args in
+    let nl = c .before .before .before .before .before .before .before .before .before .before .before .before .before .before .before .before .before .before .before .before .before .before .before .before .before .before .before .next-line in
+    let at = c .before .before .before .before .before .before .before .before .before .before .before .before .before .before .before .before .before .before .before .before .order .given in
+    let wanted = c .before .before .before .before .before .before .before .before .before .before .before .before .before .before .before .before .before .before .before .before .before .before .order-of .ensures (at .0 .0) (at .1) in
+    let booked = c .before .before .before .before .before .before .before .before .before .before .before .before .step-book in
+    let left = leb-true outputBytes (length (l .out) - l .used) (c .before .before .before .before .before .before .before .before .before .before .before .before .before .before .before .before .before .before .before .before .before .before .before .before .before .before .before .before .before .if1 .taken) in
+    let part = midOf (l .used) (length (l .out) - l .used) (l .out) in
+    let enough : outputBytes ≤ length part = omega (arith, left, tail-length (l .used) (l .out)) in
+    let answer = booked .last .1 .1 .1 .1 .1 .1 .1 .1 .1 .1 .0 in
+    let took = booked .ensures .step ∙ ap (λ (k : Command). stepOf (a .file .now) (sessionAt (l .day) (l .rows) (l .opens) (l .reserves) (l .helds)) k part) (sym (wanted .0)) in
+    let few = turn-count (a .file .now) (a .c) (sessionAt (a .s .day) (a .s .rows) (a .opens .now) (a .reserves .now) (a .helds .now)) (take (a .held) (a .line .now)) (a .bytes .now) (l .line) (l .out) (l .opens) (l .reserves) (l .helds) (l .day) (l .rows) (l .kept) (l .at) (l .used) g (nl .result) (nl .last .0) (nl .ensures)
+    (l .out) refl part enough (counting (l .day) (booked .result .count)) (set (l .rows) (booked .result .place) (booked .result .record))
+    (booked .last .1 .1 .1 .1 .1 .1 .1 .0) (booked .last .1 .1 .1 .1 .1 .1 .1 .1 .0) (booked .last .1 .1 .1 .1 .1 .1 .1 .1 .1 .0) answer (booked .result .length) took in
+    record { fits = omega (arith, few, left, g .room, l .inv .4, c .before .before .before .before .before .before .before .before .before .before .before .before .before .before .before .before .before .before .before .before .before .before .before .before .before .before .before .before .before .before .before .before .before .before .before .before .before .before .before .before .before .good) }
+
+loop-less-2 : tie.Need-loop-less-2 Inv-loop μ-loop
+loop-less-2 c = let took = c .before .before .before .before .before .before .before .before .before .before .before .before .before .before .before .before .before .before .before .before .before .before .before .before .before .before .before .next-line .ensures in omega (arith, took .moved, took .within)
+
+loop-again-2 : tie.Need-loop-again-2 Inv-loop μ-loop
+loop-again-2 c =
+    let l = c .before .before .before .before .before .before .before .before .before .before .before .before .before .before .before .before .before .before .before .before .before .before .before .before .before .before .before .before .before .before .before .loop in
+    let g = l .inv .5 in
+    let a = c .before .before .before .before .before .before .before .before .before .before .before .before .before .before .before .before .before .before .before .before .before .before .before .before .before .before .before .before .before .before .before .before .before .before .before .before .before .before .before .before .before .args in
+    let nl = c .before .before .before .before .before .before .before .before .before .before .before .before .before .before .before .before .before .before .before .before .before .before .before .before .before .before .before .next-line in
+    let at = c .before .before .before .before .before .before .before .before .before .before .before .before .before .before .before .before .before .before .before .before .order .given in
+    let wanted = c .before .before .before .before .before .before .before .before .before .before .before .before .before .before .before .before .before .before .before .before .before .before .order-of .ensures (at .0 .0) (at .1) in
+    let booked = c .before .before .before .before .before .before .before .before .before .before .before .before .step-book in
+    let left = leb-true outputBytes (length (l .out) - l .used) (c .before .before .before .before .before .before .before .before .before .before .before .before .before .before .before .before .before .before .before .before .before .before .before .before .before .before .before .before .before .if1 .taken) in
+    let part = midOf (l .used) (length (l .out) - l .used) (l .out) in
+    let enough : outputBytes ≤ length part = omega (arith, left, tail-length (l .used) (l .out)) in
+    let answer = booked .last .1 .1 .1 .1 .1 .1 .1 .1 .1 .1 .0 in
+    let took = booked .ensures .step ∙ ap (λ (k : Command). stepOf (a .file .now) (sessionAt (l .day) (l .rows) (l .opens) (l .reserves) (l .helds)) k part) (sym (wanted .0)) in
+    let few = turn-count (a .file .now) (a .c) (sessionAt (a .s .day) (a .s .rows) (a .opens .now) (a .reserves .now) (a .helds .now)) (take (a .held) (a .line .now)) (a .bytes .now) (l .line) (l .out) (l .opens) (l .reserves) (l .helds) (l .day) (l .rows) (l .kept) (l .at) (l .used) g (nl .result) (nl .last .0) (nl .ensures)
+    (l .out) refl part enough (counting (l .day) (booked .result .count)) (set (l .rows) (booked .result .place) (booked .result .record))
+    (booked .last .1 .1 .1 .1 .1 .1 .1 .0) (booked .last .1 .1 .1 .1 .1 .1 .1 .1 .0) (booked .last .1 .1 .1 .1 .1 .1 .1 .1 .1 .0) answer (booked .result .length) took in
+    let out′ = putMid (l .used) (length (l .out) - l .used) (l .out) answer in
+    let long : length out′ ≡ length (l .out) = back-length (l .used) (l .out) answer (g .room) (booked .kept .1 .1 .1 .1 .1 .1 .1 .1 .1 .1 .0) in
+    let fits : l .used + booked .result .length ≤ length out′ = omega (arith, few, left, long, g .room) in (
+      nl .kept .0 ∙ l .inv .0,
+      booked .kept .1 .1 .1 .1 .1 .1 .1 .0 ∙ l .inv .1,
+      booked .kept .1 .1 .1 .1 .1 .1 .1 .1 .0 ∙ l .inv .2,
+      booked .kept .1 .1 .1 .1 .1 .1 .1 .1 .1 .0 ∙ l .inv .3,
+      long ∙ l .inv .4,
+      turn-line (a .file .now) (a .c) (sessionAt (a .s .day) (a .s .rows) (a .opens .now) (a .reserves .now) (a .helds .now)) (take (a .held) (a .line .now)) (a .bytes .now) (l .line) (l .out) (l .opens) (l .reserves) (l .helds) (l .day) (l .rows) (l .kept) (l .at) (l .used) g (nl .result) (nl .last .0) (nl .ensures)
+          (l .out) refl part enough (counting (l .day) (booked .result .count)) (set (l .rows) (booked .result .place) (booked .result .record))
+          (booked .last .1 .1 .1 .1 .1 .1 .1 .0) (booked .last .1 .1 .1 .1 .1 .1 .1 .1 .0) (booked .last .1 .1 .1 .1 .1 .1 .1 .1 .1 .0) answer (booked .result .length) took
+          (not-false (nl .result .ended) (c .before .before .before .before .before .before .before .before .before .before .before .before .before .before .before .before .before .before .before .before .before .before .before .if2 .left)) out′ (tail-back (l .used) (l .out) answer) fits,
+      booked .kept .1 .1 .1 .1 .1 .0 ∙ l .inv .6,
+      booked .kept .1 .1 .1 .1 .1 .1 .0 ∙ l .inv .7,
+      l .inv .8,
+      record { looked = λ h. absurd (omega arith); tabled = λ h. absurd (omega arith) },
+    )
+
+enum-told : tie.Need-enum-told Inv-loop μ-loop
+enum-told c = search needs
+
 slice-aggregate-try-ahead : tie.Need-slice-aggregate-try-ahead Inv-loop μ-loop
-slice-aggregate-try-ahead c = sym (c .before .before .before .before .before .before .before .before .before .loop .inv .6)
+slice-aggregate-try-ahead c = sym (c .before .before .before .before .before .before .before .before .before .before .before .before .loop .inv .6)
 
 slice-aggregate-try-ahead-2 : tie.Need-slice-aggregate-try-ahead-2 Inv-loop μ-loop
-slice-aggregate-try-ahead-2 c = sym (c .before .before .before .before .before .before .before .before .before .before .loop .inv .7)
+slice-aggregate-try-ahead-2 c = sym (c .before .before .before .before .before .before .before .before .before .before .before .before .before .loop .inv .7)
 
 slice-aggregate-try-ahead-3 : tie.Need-slice-aggregate-try-ahead-3 Inv-loop μ-loop
-slice-aggregate-try-ahead-3 c = sym (c .before .before .before .before .before .before .before .before .before .before .before .loop .inv .8)
+slice-aggregate-try-ahead-3 c = sym (c .before .before .before .before .before .before .before .before .before .before .before .before .before .before .loop .inv .8)
 
 sub-try-ahead : tie.Need-sub-try-ahead Inv-loop μ-loop
 sub-try-ahead c =
-    let l = c .before .before .before .before .before .before .before .before .before .before .before .loop in
+    let l = c .before .before .before .before .before .before .before .before .before .before .before .before .before .before .loop in
     let g = l .inv .5 in
-    let a = c .before .before .before .before .before .before .before .before .before .before .before .before .before .before .before .before .before .before .before .before .before .args in
+    let a = c .before .before .before .before .before .before .before .before .before .before .before .before .before .before .before .before .before .before .before .before .before .before .before .before .args in
     omega (arith, g .room)
 
 part-try-ahead-start : tie.Need-part-try-ahead-start Inv-loop μ-loop
 part-try-ahead-start c =
-    let l = c .before .before .before .before .before .before .before .before .before .before .before .loop in
+    let l = c .before .before .before .before .before .before .before .before .before .before .before .before .before .before .loop in
     let g = l .inv .5 in
-    let a = c .before .before .before .before .before .before .before .before .before .before .before .before .before .before .before .before .before .before .before .before .before .args in
+    let a = c .before .before .before .before .before .before .before .before .before .before .before .before .before .before .before .before .before .before .before .before .before .before .before .before .args in
     omega (arith, g .room)
 
 part-try-ahead-end : tie.Need-part-try-ahead-end Inv-loop μ-loop
 part-try-ahead-end c =
-    let l = c .before .before .before .before .before .before .before .before .before .before .before .loop in
+    let l = c .before .before .before .before .before .before .before .before .before .before .before .before .before .before .loop in
     let g = l .inv .5 in
-    let a = c .before .before .before .before .before .before .before .before .before .before .before .before .before .before .before .before .before .before .before .before .before .args in
+    let a = c .before .before .before .before .before .before .before .before .before .before .before .before .before .before .before .before .before .before .before .before .before .before .before .before .args in
     omega (arith, g .room)
 
 try-ahead-requires : tie.Need-try-ahead-requires Inv-loop μ-loop
 try-ahead-requires c κs =
-    let l = c .before .before .before .before .before .before .before .before .before .before .before .before .loop in
+    let l = c .before .before .before .before .before .before .before .before .before .before .before .before .before .before .before .loop in
     let g = l .inv .5 in
-    let a = c .before .before .before .before .before .before .before .before .before .before .before .before .before .before .before .before .before .before .before .before .before .before .args in
-    let left = leb-true outputBytes (length (l .out) - l .used) (c .before .before .before .before .before .before .before .before .before .before .if1 .taken) in
+    let a = c .before .before .before .before .before .before .before .before .before .before .before .before .before .before .before .before .before .before .before .before .before .before .before .before .before .args in
+    let left = leb-true outputBytes (length (l .out) - l .used) (c .before .before .before .before .before .before .before .before .before .before .before .before .before .if1 .taken) in
     (omega (arith, left, tail-length (l .used) (l .out)), omega (arith, l .inv .8), l .inv .9 .looked)
 
-add-used : tie.Need-add-used Inv-loop μ-loop
-add-used c =
-    let l = c .before .before .before .before .before .before .before .before .before .before .before .before .before .before .before .before .before .before .before .loop in
+add-used-2 : tie.Need-add-used-2 Inv-loop μ-loop
+add-used-2 c =
+    let l = c .before .before .before .before .before .before .before .before .before .before .before .before .before .before .before .before .before .before .before .before .before .before .loop in
     let g = l .inv .5 in
-    let a = c .before .before .before .before .before .before .before .before .before .before .before .before .before .before .before .before .before .before .before .before .before .before .before .before .before .before .before .before .before .args in
-    let nl = c .before .before .before .before .before .before .before .before .before .before .before .before .before .before .before .next-line in
+    let a = c .before .before .before .before .before .before .before .before .before .before .before .before .before .before .before .before .before .before .before .before .before .before .before .before .before .before .before .before .before .before .before .before .args in
+    let nl = c .before .before .before .before .before .before .before .before .before .before .before .before .before .before .before .before .before .before .next-line in
     let tried = c .before .before .before .before .before .before .try-ahead in
-    let left = leb-true outputBytes (length (l .out) - l .used) (c .before .before .before .before .before .before .before .before .before .before .before .before .before .before .before .before .before .if1 .taken) in
+    let left = leb-true outputBytes (length (l .out) - l .used) (c .before .before .before .before .before .before .before .before .before .before .before .before .before .before .before .before .before .before .before .before .if1 .taken) in
     let part = midOf (l .used) (length (l .out) - l .used) (l .out) in
     let enough : outputBytes ≤ length part = omega (arith, left, tail-length (l .used) (l .out)) in
     let answer = tried .last .1 .1 .1 .1 .1 .1 .1 .1 .0 in
     let took = tried .ensures .took (c .before .if3 .taken) (a .c) (l .rows) (l .opens) (l .reserves) (l .helds) (g .ready) (l .inv .9 .tabled) in
     let few = turn-count (a .file .now) (a .c) (sessionAt (a .s .day) (a .s .rows) (a .opens .now) (a .reserves .now) (a .helds .now)) (take (a .held) (a .line .now)) (a .bytes .now) (l .line) (l .out) (l .opens) (l .reserves) (l .helds) (l .day) (l .rows) (l .kept) (l .at) (l .used) g (nl .result) (nl .last .0) (nl .ensures)
     (l .out) refl part enough (atRound (l .day) (tried .result .now)) (l .rows) (l .opens) (l .reserves) (l .helds) answer (tried .result .length) took in
-    record { fits = omega (arith, few, left, g .room, l .inv .4, c .before .before .before .before .before .before .before .before .before .before .before .before .before .before .before .before .before .before .before .before .before .before .before .before .before .before .before .before .before .good) }
+    record { fits = omega (arith, few, left, g .room, l .inv .4, c .before .before .before .before .before .before .before .before .before .before .before .before .before .before .before .before .before .before .before .before .before .before .before .before .before .before .before .before .before .before .before .before .good) }
 
-loop-less-2 : tie.Need-loop-less-2 Inv-loop μ-loop
-loop-less-2 c =
-    let took = c .before .before .before .before .before .before .before .before .before .before .before .before .before .before .before .next-line .ensures in
+loop-less-3 : tie.Need-loop-less-3 Inv-loop μ-loop
+loop-less-3 c =
+    let took = c .before .before .before .before .before .before .before .before .before .before .before .before .before .before .before .before .before .before .next-line .ensures in
     omega (arith, took .moved, took .within)
 
-loop-again-2 : tie.Need-loop-again-2 Inv-loop μ-loop
-loop-again-2 c =
-    let l = c .before .before .before .before .before .before .before .before .before .before .before .before .before .before .before .before .before .before .before .loop in
+loop-again-3 : tie.Need-loop-again-3 Inv-loop μ-loop
+loop-again-3 c =
+    let l = c .before .before .before .before .before .before .before .before .before .before .before .before .before .before .before .before .before .before .before .before .before .before .loop in
     let g = l .inv .5 in
-    let a = c .before .before .before .before .before .before .before .before .before .before .before .before .before .before .before .before .before .before .before .before .before .before .before .before .before .before .before .before .before .args in
-    let nl = c .before .before .before .before .before .before .before .before .before .before .before .before .before .before .before .next-line in
+    let a = c .before .before .before .before .before .before .before .before .before .before .before .before .before .before .before .before .before .before .before .before .before .before .before .before .before .before .before .before .before .before .before .before .args in
+    let nl = c .before .before .before .before .before .before .before .before .before .before .before .before .before .before .before .before .before .before .next-line in
     let tried = c .before .before .before .before .before .before .try-ahead in
-    let left = leb-true outputBytes (length (l .out) - l .used) (c .before .before .before .before .before .before .before .before .before .before .before .before .before .before .before .before .before .if1 .taken) in
+    let left = leb-true outputBytes (length (l .out) - l .used) (c .before .before .before .before .before .before .before .before .before .before .before .before .before .before .before .before .before .before .before .before .if1 .taken) in
     let part = midOf (l .used) (length (l .out) - l .used) (l .out) in
     let enough : outputBytes ≤ length part = omega (arith, left, tail-length (l .used) (l .out)) in
     let answer = tried .last .1 .1 .1 .1 .1 .1 .1 .1 .0 in
@@ -155,7 +253,7 @@ loop-again-2 c =
       long ∙ l .inv .4,
       turn-line (a .file .now) (a .c) (sessionAt (a .s .day) (a .s .rows) (a .opens .now) (a .reserves .now) (a .helds .now)) (take (a .held) (a .line .now)) (a .bytes .now) (l .line) (l .out) (l .opens) (l .reserves) (l .helds) (l .day) (l .rows) (l .kept) (l .at) (l .used) g (nl .result) (nl .last .0) (nl .ensures)
           (l .out) refl part enough (atRound (l .day) (tried .result .now)) (l .rows) (l .opens) (l .reserves) (l .helds) answer (tried .result .length) took
-          (not-false (nl .result .ended) (c .before .before .before .before .before .before .before .before .before .before .before .if2 .left)) out′ (tail-back (l .used) (l .out) answer) fits,
+          (not-false (nl .result .ended) (c .before .before .before .before .before .before .before .before .before .before .before .before .before .before .if2 .left)) out′ (tail-back (l .used) (l .out) answer) fits,
       l .inv .6,
       l .inv .7,
       tried .kept .1 .1 .1 .1 .1 .1 .1 .0 ∙ l .inv .8,
@@ -163,19 +261,19 @@ loop-again-2 c =
     )
 
 slice-aggregate-step-ahead : tie.Need-slice-aggregate-step-ahead Inv-loop μ-loop
-slice-aggregate-step-ahead c = sym (c .before .before .before .before .before .before .before .before .before .before .before .before .before .before .before .before .before .before .before .loop .inv .6)
+slice-aggregate-step-ahead c = sym (c .before .before .before .before .before .before .before .before .before .before .before .before .before .before .before .before .before .before .before .before .before .before .loop .inv .6)
 
 slice-aggregate-step-ahead-2 : tie.Need-slice-aggregate-step-ahead-2 Inv-loop μ-loop
-slice-aggregate-step-ahead-2 c = sym (c .before .before .before .before .before .before .before .before .before .before .before .before .before .before .before .before .before .before .before .before .loop .inv .7)
+slice-aggregate-step-ahead-2 c = sym (c .before .before .before .before .before .before .before .before .before .before .before .before .before .before .before .before .before .before .before .before .before .before .before .loop .inv .7)
 
 slice-aggregate-step-ahead-3 : tie.Need-slice-aggregate-step-ahead-3 Inv-loop μ-loop
-slice-aggregate-step-ahead-3 c = sym (c .before .before .before .before .before .before .before .before .try-ahead .kept .1 .1 .1 .1 .1 .1 .1 .0 ∙ c .before .before .before .before .before .before .before .before .before .before .before .before .before .before .before .before .before .before .before .before .before .loop .inv .8)
+slice-aggregate-step-ahead-3 c = sym (c .before .before .before .before .before .before .before .before .try-ahead .kept .1 .1 .1 .1 .1 .1 .1 .0 ∙ c .before .before .before .before .before .before .before .before .before .before .before .before .before .before .before .before .before .before .before .before .before .before .before .before .loop .inv .8)
 
 sub-step-ahead : tie.Need-sub-step-ahead Inv-loop μ-loop
 sub-step-ahead c =
-    let l = c .before .before .before .before .before .before .before .before .before .before .before .before .before .before .before .before .before .before .before .before .before .before .before .before .loop in
+    let l = c .before .before .before .before .before .before .before .before .before .before .before .before .before .before .before .before .before .before .before .before .before .before .before .before .before .before .before .loop in
     let g = l .inv .5 in
-    let a = c .before .before .before .before .before .before .before .before .before .before .before .before .before .before .before .before .before .before .before .before .before .before .before .before .before .before .before .before .before .before .before .before .before .before .args in
+    let a = c .before .before .before .before .before .before .before .before .before .before .before .before .before .before .before .before .before .before .before .before .before .before .before .before .before .before .before .before .before .before .before .before .before .before .before .before .before .args in
     let tried = c .before .before .before .before .before .before .before .before .before .before .before .try-ahead in
     let back = tried .last .1 .1 .1 .1 .1 .1 .1 .1 .0 in
     let out₁ = putMid (l .used) (length (l .out) - l .used) (l .out) back in
@@ -184,9 +282,9 @@ sub-step-ahead c =
 
 part-step-ahead-start : tie.Need-part-step-ahead-start Inv-loop μ-loop
 part-step-ahead-start c =
-    let l = c .before .before .before .before .before .before .before .before .before .before .before .before .before .before .before .before .before .before .before .before .before .before .before .before .loop in
+    let l = c .before .before .before .before .before .before .before .before .before .before .before .before .before .before .before .before .before .before .before .before .before .before .before .before .before .before .before .loop in
     let g = l .inv .5 in
-    let a = c .before .before .before .before .before .before .before .before .before .before .before .before .before .before .before .before .before .before .before .before .before .before .before .before .before .before .before .before .before .before .before .before .before .before .args in
+    let a = c .before .before .before .before .before .before .before .before .before .before .before .before .before .before .before .before .before .before .before .before .before .before .before .before .before .before .before .before .before .before .before .before .before .before .before .before .before .args in
     let tried = c .before .before .before .before .before .before .before .before .before .before .before .try-ahead in
     let back = tried .last .1 .1 .1 .1 .1 .1 .1 .1 .0 in
     let out₁ = putMid (l .used) (length (l .out) - l .used) (l .out) back in
@@ -195,9 +293,9 @@ part-step-ahead-start c =
 
 part-step-ahead-end : tie.Need-part-step-ahead-end Inv-loop μ-loop
 part-step-ahead-end c =
-    let l = c .before .before .before .before .before .before .before .before .before .before .before .before .before .before .before .before .before .before .before .before .before .before .before .before .loop in
+    let l = c .before .before .before .before .before .before .before .before .before .before .before .before .before .before .before .before .before .before .before .before .before .before .before .before .before .before .before .loop in
     let g = l .inv .5 in
-    let a = c .before .before .before .before .before .before .before .before .before .before .before .before .before .before .before .before .before .before .before .before .before .before .before .before .before .before .before .before .before .before .before .before .before .before .args in
+    let a = c .before .before .before .before .before .before .before .before .before .before .before .before .before .before .before .before .before .before .before .before .before .before .before .before .before .before .before .before .before .before .before .before .before .before .before .before .before .args in
     let tried = c .before .before .before .before .before .before .before .before .before .before .before .try-ahead in
     let back = tried .last .1 .1 .1 .1 .1 .1 .1 .1 .0 in
     let out₁ = putMid (l .used) (length (l .out) - l .used) (l .out) back in
@@ -206,11 +304,11 @@ part-step-ahead-end c =
 
 step-ahead-requires : tie.Need-step-ahead-requires Inv-loop μ-loop
 step-ahead-requires c κs =
-    let l = c .before .before .before .before .before .before .before .before .before .before .before .before .before .before .before .before .before .before .before .before .before .before .before .before .before .loop in
+    let l = c .before .before .before .before .before .before .before .before .before .before .before .before .before .before .before .before .before .before .before .before .before .before .before .before .before .before .before .before .loop in
     let g = l .inv .5 in
-    let a = c .before .before .before .before .before .before .before .before .before .before .before .before .before .before .before .before .before .before .before .before .before .before .before .before .before .before .before .before .before .before .before .before .before .before .before .args in
+    let a = c .before .before .before .before .before .before .before .before .before .before .before .before .before .before .before .before .before .before .before .before .before .before .before .before .before .before .before .before .before .before .before .before .before .before .before .before .before .before .args in
     let tried = c .before .before .before .before .before .before .before .before .before .before .before .before .try-ahead in
-    let left = leb-true outputBytes (length (l .out) - l .used) (c .before .before .before .before .before .before .before .before .before .before .before .before .before .before .before .before .before .before .before .before .before .before .before .if1 .taken) in
+    let left = leb-true outputBytes (length (l .out) - l .used) (c .before .before .before .before .before .before .before .before .before .before .before .before .before .before .before .before .before .before .before .before .before .before .before .before .before .before .if1 .taken) in
     let back = tried .last .1 .1 .1 .1 .1 .1 .1 .1 .0 in
     let out₁ = putMid (l .used) (length (l .out) - l .used) (l .out) back in
     let long : length out₁ ≡ length (l .out) = back-length (l .used) (l .out) back (g .room) (tried .kept .1 .1 .1 .1 .1 .1 .1 .1 .0) in
@@ -219,20 +317,19 @@ step-ahead-requires c κs =
       enough,
       record {
         for-table = omega (arith, l .inv .6);
-        for-profile = omega (arith, l .inv .7);
         for-words = omega (arith, tried .kept .1 .1 .1 .1 .1 .1 .1 .0, l .inv .8);
       },
       g .ready,
     )
 
-add-used-2 : tie.Need-add-used-2 Inv-loop μ-loop
-add-used-2 c =
-    let l = c .before .before .before .before .before .before .before .before .before .before .before .before .before .before .before .before .before .before .before .before .before .before .before .before .before .before .before .before .before .before .before .before .before .before .before .before .before .before .before .before .loop in
+add-used-3 : tie.Need-add-used-3 Inv-loop μ-loop
+add-used-3 c =
+    let l = c .before .before .before .before .before .before .before .before .before .before .before .before .before .before .before .before .before .before .before .before .before .before .before .before .before .before .before .before .before .before .before .before .before .before .before .before .before .before .before .before .before .before .before .loop in
     let g = l .inv .5 in
-    let a = c .before .before .before .before .before .before .before .before .before .before .before .before .before .before .before .before .before .before .before .before .before .before .before .before .before .before .before .before .before .before .before .before .before .before .before .before .before .before .before .before .before .before .before .before .before .before .before .before .before .before .args in
-    let nl = c .before .before .before .before .before .before .before .before .before .before .before .before .before .before .before .before .before .before .before .before .before .before .before .before .before .before .before .before .before .before .before .before .before .before .before .before .next-line in
+    let a = c .before .before .before .before .before .before .before .before .before .before .before .before .before .before .before .before .before .before .before .before .before .before .before .before .before .before .before .before .before .before .before .before .before .before .before .before .before .before .before .before .before .before .before .before .before .before .before .before .before .before .before .before .before .args in
+    let nl = c .before .before .before .before .before .before .before .before .before .before .before .before .before .before .before .before .before .before .before .before .before .before .before .before .before .before .before .before .before .before .before .before .before .before .before .before .before .before .before .next-line in
     let tried = c .before .before .before .before .before .before .before .before .before .before .before .before .before .before .before .before .before .before .before .before .before .before .before .before .before .before .before .try-ahead in
-    let left = leb-true outputBytes (length (l .out) - l .used) (c .before .before .before .before .before .before .before .before .before .before .before .before .before .before .before .before .before .before .before .before .before .before .before .before .before .before .before .before .before .before .before .before .before .before .before .before .before .before .if1 .taken) in
+    let left = leb-true outputBytes (length (l .out) - l .used) (c .before .before .before .before .before .before .before .before .before .before .before .before .before .before .before .before .before .before .before .before .before .before .before .before .before .before .before .before .before .before .before .before .before .before .before .before .before .before .before .before .before .if1 .taken) in
     let back = tried .last .1 .1 .1 .1 .1 .1 .1 .1 .0 in
     let out₁ = putMid (l .used) (length (l .out) - l .used) (l .out) back in
     let long : length out₁ ≡ length (l .out) = back-length (l .used) (l .out) back (g .room) (tried .kept .1 .1 .1 .1 .1 .1 .1 .1 .0) in
@@ -243,21 +340,21 @@ add-used-2 c =
     let few = turn-count (a .file .now) (a .c) (sessionAt (a .s .day) (a .s .rows) (a .opens .now) (a .reserves .now) (a .helds .now)) (take (a .held) (a .line .now)) (a .bytes .now) (l .line) (l .out) (l .opens) (l .reserves) (l .helds) (l .day) (l .rows) (l .kept) (l .at) (l .used) g (nl .result) (nl .last .0) (nl .ensures)
     out₁ (back-front (l .used) (l .out) back (g .room) (tried .kept .1 .1 .1 .1 .1 .1 .1 .1 .0)) part enough (stepped .result .day) (stepped .result .rows)
     (stepped .last .1 .1 .1 .1 .1 .1 .1 .1 .0) (stepped .last .1 .1 .1 .1 .1 .1 .1 .1 .1 .0) (stepped .last .1 .1 .1 .1 .1 .1 .1 .1 .1 .1 .0) answer (stepped .result .length) (stepped .ensures .step) in
-    record { fits = omega (arith, few, left, g .room, l .inv .4, c .before .before .before .before .before .before .before .before .before .before .before .before .before .before .before .before .before .before .before .before .before .before .before .before .before .before .before .before .before .before .before .before .before .before .before .before .before .before .before .before .before .before .before .before .before .before .before .before .before .before .good) }
+    record { fits = omega (arith, few, left, g .room, l .inv .4, c .before .before .before .before .before .before .before .before .before .before .before .before .before .before .before .before .before .before .before .before .before .before .before .before .before .before .before .before .before .before .before .before .before .before .before .before .before .before .before .before .before .before .before .before .before .before .before .before .before .before .before .before .before .good) }
 
-loop-less-3 : tie.Need-loop-less-3 Inv-loop μ-loop
-loop-less-3 c =
-    let took = c .before .before .before .before .before .before .before .before .before .before .before .before .before .before .before .before .before .before .before .before .before .before .before .before .before .before .before .before .before .before .before .before .before .before .before .before .next-line .ensures in
+loop-less-4 : tie.Need-loop-less-4 Inv-loop μ-loop
+loop-less-4 c =
+    let took = c .before .before .before .before .before .before .before .before .before .before .before .before .before .before .before .before .before .before .before .before .before .before .before .before .before .before .before .before .before .before .before .before .before .before .before .before .before .before .before .next-line .ensures in
     omega (arith, took .moved, took .within)
 
-loop-again-3 : tie.Need-loop-again-3 Inv-loop μ-loop
-loop-again-3 c =
-    let l = c .before .before .before .before .before .before .before .before .before .before .before .before .before .before .before .before .before .before .before .before .before .before .before .before .before .before .before .before .before .before .before .before .before .before .before .before .before .before .before .before .loop in
+loop-again-4 : tie.Need-loop-again-4 Inv-loop μ-loop
+loop-again-4 c =
+    let l = c .before .before .before .before .before .before .before .before .before .before .before .before .before .before .before .before .before .before .before .before .before .before .before .before .before .before .before .before .before .before .before .before .before .before .before .before .before .before .before .before .before .before .before .loop in
     let g = l .inv .5 in
-    let a = c .before .before .before .before .before .before .before .before .before .before .before .before .before .before .before .before .before .before .before .before .before .before .before .before .before .before .before .before .before .before .before .before .before .before .before .before .before .before .before .before .before .before .before .before .before .before .before .before .before .before .args in
-    let nl = c .before .before .before .before .before .before .before .before .before .before .before .before .before .before .before .before .before .before .before .before .before .before .before .before .before .before .before .before .before .before .before .before .before .before .before .before .next-line in
+    let a = c .before .before .before .before .before .before .before .before .before .before .before .before .before .before .before .before .before .before .before .before .before .before .before .before .before .before .before .before .before .before .before .before .before .before .before .before .before .before .before .before .before .before .before .before .before .before .before .before .before .before .before .before .before .args in
+    let nl = c .before .before .before .before .before .before .before .before .before .before .before .before .before .before .before .before .before .before .before .before .before .before .before .before .before .before .before .before .before .before .before .before .before .before .before .before .before .before .before .next-line in
     let tried = c .before .before .before .before .before .before .before .before .before .before .before .before .before .before .before .before .before .before .before .before .before .before .before .before .before .before .before .try-ahead in
-    let left = leb-true outputBytes (length (l .out) - l .used) (c .before .before .before .before .before .before .before .before .before .before .before .before .before .before .before .before .before .before .before .before .before .before .before .before .before .before .before .before .before .before .before .before .before .before .before .before .before .before .if1 .taken) in
+    let left = leb-true outputBytes (length (l .out) - l .used) (c .before .before .before .before .before .before .before .before .before .before .before .before .before .before .before .before .before .before .before .before .before .before .before .before .before .before .before .before .before .before .before .before .before .before .before .before .before .before .before .before .before .if1 .taken) in
     let back = tried .last .1 .1 .1 .1 .1 .1 .1 .1 .0 in
     let out₁ = putMid (l .used) (length (l .out) - l .used) (l .out) back in
     let long : length out₁ ≡ length (l .out) = back-length (l .used) (l .out) back (g .room) (tried .kept .1 .1 .1 .1 .1 .1 .1 .1 .0) in
@@ -280,7 +377,7 @@ loop-again-3 c =
       turn-line (a .file .now) (a .c) (sessionAt (a .s .day) (a .s .rows) (a .opens .now) (a .reserves .now) (a .helds .now)) (take (a .held) (a .line .now)) (a .bytes .now) (l .line) (l .out) (l .opens) (l .reserves) (l .helds) (l .day) (l .rows) (l .kept) (l .at) (l .used) g (nl .result) (nl .last .0) (nl .ensures)
           out₁ (back-front (l .used) (l .out) back (g .room) (tried .kept .1 .1 .1 .1 .1 .1 .1 .1 .0)) part enough (stepped .result .day) (stepped .result .rows)
           (stepped .last .1 .1 .1 .1 .1 .1 .1 .1 .0) (stepped .last .1 .1 .1 .1 .1 .1 .1 .1 .1 .0) (stepped .last .1 .1 .1 .1 .1 .1 .1 .1 .1 .1 .0) answer (stepped .result .length) (stepped .ensures .step)
-          (not-false (nl .result .ended) (c .before .before .before .before .before .before .before .before .before .before .before .before .before .before .before .before .before .before .before .before .before .before .before .before .before .before .before .before .before .before .before .before .if2 .left)) out′ (tail-back (l .used) out₁ answer) fits,
+          (not-false (nl .result .ended) (c .before .before .before .before .before .before .before .before .before .before .before .before .before .before .before .before .before .before .before .before .before .before .before .before .before .before .before .before .before .before .before .before .before .before .before .if2 .left)) out′ (tail-back (l .used) out₁ answer) fits,
       stepped .kept .1 .1 .1 .1 .1 .0 ∙ l .inv .6,
       stepped .kept .1 .1 .1 .1 .1 .1 .0 ∙ l .inv .7,
       stepped .kept .1 .1 .1 .1 .1 .1 .1 .0 ∙ tried .kept .1 .1 .1 .1 .1 .1 .1 .0 ∙ l .inv .8,
@@ -346,6 +443,20 @@ serve-bytes-spec =
     next-line-requires
     loop-less
     loop-again
+    order-of-requires
+    enum-known-order
+    slice-aggregate-step-book
+    slice-aggregate-step-book-2
+    sub-step-book
+    part-step-book-start
+    part-step-book-end
+    step-book-requires
+    mul-rows
+    array-set-from-rows
+    add-used
+    loop-less-2
+    loop-again-2
+    enum-told
     slice-aggregate-try-ahead
     slice-aggregate-try-ahead-2
     slice-aggregate-try-ahead-3
@@ -353,9 +464,9 @@ serve-bytes-spec =
     part-try-ahead-start
     part-try-ahead-end
     try-ahead-requires
-    add-used
-    loop-less-2
-    loop-again-2
+    add-used-2
+    loop-less-3
+    loop-again-3
     slice-aggregate-step-ahead
     slice-aggregate-step-ahead-2
     slice-aggregate-step-ahead-3
@@ -363,9 +474,9 @@ serve-bytes-spec =
     part-step-ahead-start
     part-step-ahead-end
     step-ahead-requires
-    add-used-2
-    loop-less-3
-    loop-again-3
+    add-used-3
+    loop-less-4
+    loop-again-4
     same-length
     same-length-2
     same-length-3
