@@ -6,4 +6,5 @@ pub mod WindowLaws
 pub mod StepLaws
 pub mod CabLaws
 pub mod MemoryLaws
+pub mod Blocks
 pub mod ProfileLaws

@@ -13,7 +13,7 @@ use Rattle.load.specs.Stream.{lengthOf}
 use Rattle.load.specs.declared.stream.Stream.{Stream}
 use Rattle.search.specs.Fit.{diskFits, memoryFits, DiskRows, HeldRows}
 use Rattle.search.specs.declared.window.Step.{Step}
-use Rattle.search.specs.declared.window.Step.the-variants.{Fits, Next}
+use Rattle.search.specs.declared.window.Step.the-variants.{Fits, Over, Next}
 
 -- ---- the tests of a start
 
@@ -114,4 +114,5 @@ pub record Skips (q : Tests) (start next clear : ℕ) : Type 0 where
 -- what is found out of a start: it fits, or the next one to try
 abbrev pub Tells : Tests → ℕ → Step → Type 0
 Tells q start Fits = fits q start ≡ true
+Tells q start (Over c) = Skips q start (c .start) (c .clear)
 Tells q start (Next c) = Skips q start (c .start) (c .clear)

@@ -1,4 +1,5 @@
 // The first start of a booking's window that fits.
+mod blocks;
 mod cabs;
 mod disk;
 mod memory;

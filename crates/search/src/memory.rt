@@ -7,9 +7,10 @@ ghost use Rattle.laws.specs.Tests.{below};
 ghost use Rattle.search.specs.Fit.{HeldRows, memoryFits};
 ghost use Rattle.search.specs.Search.{Fails, SomeFails, SomeFailsIn};
 ghost use Rattle.search.specs.MemoryLaws.{bothFit, Parts};
+ghost use Rattle.search.specs.Blocks.{Taken};
 
 // rounds that are tested together
-const TOGETHER: usize = 64;
+pub const TOGETHER: usize = 64;
 
 // The largest number below 2^63. What a round of the day and one of a stream hold together is no more.
 const MOST: u64 = 9223372036854775807;
@@ -69,6 +70,32 @@ fn part_over(helds: &[u64], memory: u64, profile: &[u64], s: usize, a: usize, e:
     a + last_over(day, memory, own)
 }
 
+// The same of at most 64 rounds, which need no look if the mark of the block in which they begin tells that memory takes them.
+fn block_over(
+    helds: &[u64],
+    memory: u64,
+    profile: &[u64],
+    s: usize,
+    a: usize,
+    e: usize,
+    taken: &[u64],
+) -> usize
+    requires { ⌜ (a ≤ e)
+        × (e ≤ a + 64)
+        × (HeldRows (now helds) (s + e))
+        × (HeldRows (now profile) e)
+        × (Taken (λ j. memoryFits (now helds) memory (now profile) s j) e (length (now taken)) (now taken)) ⌝ }
+    ensures { λ r. ⌜ SomeFailsIn (λ j. memoryFits (now (helds .entry)) memory (now (profile .entry)) s j) a e r ⌝ }
+{
+    let k = a / TOGETHER;
+    if k < taken.len() {
+        if taken[k] == 1 {
+            return e;
+        }
+    }
+    part_over(helds, memory, profile, s, a, e)
+}
+
 // The round after those that are tested together with e.
 fn block_end(e: usize, n: usize) -> usize
     requires { ⌜ e ≤ n ⌝ }
@@ -84,14 +111,15 @@ fn block_start(a: usize) -> usize
     if a < TOGETHER { 0 } else { a - TOGETHER }
 }
 
-fn smaller(a: usize, b: usize) -> usize
+pub fn smaller(a: usize, b: usize) -> usize
     ensures { λ r. ⌜ r ≡ min a b ⌝ }
 {
     if a < b { a } else { b }
 }
 
 // Of the rounds 0 to n - 1 of a stream from s on, one in which memory cannot take it; n if there is none. They are looked at from
-// round near on in both directions, since starts that follow each other are mostly refused in rounds that are not far apart.
+// round near on in both directions, since starts that follow each other are mostly refused in rounds that are not far apart. Those
+// that are marked as taken are left out.
 pub fn some_over(
     helds: &[u64],
     memory: u64,
@@ -99,20 +127,23 @@ pub fn some_over(
     s: usize,
     n: usize,
     near: usize,
+    taken: &[u64],
 ) -> usize
-    requires { ⌜ (HeldRows (now helds) (s + n)) × (HeldRows (now profile) n) ⌝ }
+    requires { ⌜ (HeldRows (now helds) (s + n))
+        × (HeldRows (now profile) n)
+        × (Taken (λ j. memoryFits (now helds) memory (now profile) s j) n (length (now taken)) (now taken)) ⌝ }
     ensures { λ r. ⌜ SomeFails (λ j. memoryFits (now (helds .entry)) memory (now (profile .entry)) s j) n r ⌝ }
 {
     let mut a = smaller(near, n);
     let mut e = a;
     while e - a < n {
         let to = block_end(e, n);
-        let later = part_over(helds, memory, profile, s, e, to);
+        let later = block_over(helds, memory, profile, s, e, to, taken);
         if later < to {
             return later;
         }
         let from = block_start(a);
-        let earlier = part_over(helds, memory, profile, s, from, a);
+        let earlier = block_over(helds, memory, profile, s, from, a, taken);
         if earlier < a {
             return earlier;
         }

@@ -1,15 +1,19 @@
 // The starts of a window, tried upward. A start that does not fit rules out others, so most are never looked at.
 use crate::Found;
+use crate::blocks;
 use crate::cabs;
 use crate::disk;
 use crate::memory;
 use load::stream::Stream;
 ghost use mathlib.Core.Path.{_≡_};
 ghost use Prim.Native.Nat.{_+_, _≤_, max};
+ghost use lib.ListN.{length};
 ghost use Rattle.limits.specs.Bounds.{maxDay};
+ghost use Rattle.load.specs.Stream.{lengthOf};
 ghost use Rattle.model.specs.Fit.{firstOf};
 ghost use Rattle.search.specs.Fit.{answerOf, memoryFits, HeldRows};
 ghost use Rattle.search.specs.Search.{fits, testsOf, RefusedTo, Walks, Clear, Tells};
+ghost use Rattle.search.specs.Blocks.{Taken};
 
 // A start to try, the round up to which its rounds are known to be free for the disk, and the last two rounds of the stream's own
 // in which memory refused starts before.
@@ -20,9 +24,11 @@ pub struct Candidate {
     pub other: usize,
 }
 
-// What a start is found to be: it fits, or the next one to try.
+// What a start is found to be: it fits, or the next one to try, after a look at its rounds found one in which memory refuses it, or
+// after something else did.
 pub enum Step {
     Fits,
+    Over(Candidate),
     Next(Candidate),
 }
 
@@ -83,10 +89,12 @@ pub fn try_start(
     disk: u64,
     memory: u64,
     last: usize,
+    taken: &[u64],
     c: Candidate,
 ) -> Step
     requires { ⌜ (Walks y (now profile) (now shows) (now ends) (now losses) (now opens) (now reserves) (now helds) last)
         × (c .start ≤ last)
+        × (Taken (λ j. memoryFits (now helds) memory (now profile) (c .start) j) (lengthOf y) (length (now taken)) (now taken))
         × (Clear (testsOf y (now profile) (now shows) (now ends) (now opens) (now reserves) (now helds) disk memory) (c .start) (c .clear)) ⌝ }
     ensures { λ r. ⌜ Tells (testsOf y (now (profile .entry)) (now (shows .entry)) (now (ends .entry)) (now (opens .entry)) (now (reserves .entry)) (now (helds .entry)) disk memory) (c .start) r ⌝ }
 {
@@ -112,9 +120,9 @@ pub fn try_start(
             other: c.other,
         });
     }
-    let over = memory::some_over(helds, memory, profile, start, n, c.near);
+    let over = memory::some_over(helds, memory, profile, start, n, c.near, taken);
     if over < n {
-        return Step::Next(Candidate {
+        return Step::Over(Candidate {
             start: start + 1,
             clear: end,
             near: over,
@@ -158,6 +166,8 @@ pub fn first_fit(
         other: 0,
     };
     let n = y.prefetch + y.rounds;
+    let mut taken = [0u64; blocks::MARKS];
+    let mut left = blocks::less(last + n, first);
     while c.start <= last {
         let next = skip_near(helds, memory, profile, n, last, c);
         if last < next.start {
@@ -175,11 +185,27 @@ pub fn first_fit(
             disk,
             memory,
             last,
+            &taken,
             next,
         );
         match step {
             Step::Fits => {
                 return Found::At(next.start as u64);
+            }
+            Step::Over(after) => {
+                left = blocks::after_look(
+                    helds,
+                    memory,
+                    profile,
+                    n,
+                    first,
+                    last,
+                    next.near,
+                    after.near,
+                    left,
+                    &mut taken,
+                );
+                c = after;
             }
             Step::Next(after) => {
                 c = after;
