@@ -1,11 +1,12 @@
 -- A request whose questions but 22 have passed, placed: what the code's steps ask and give is what the model's call says.
 -- Assumes nothing.
 use mathlib.Core.Path.{_≡_, refl, sym, ap, _∙_, subst}
+use mathlib.Core.Bool.{Bool, true, false}
 use mathlib.Core.List.{List, [], _∷_, _++_}
 use Prim.Native.Nat.{ℕ, zero, suc, _+_, _-_, _^_, _≤_, _<_}
 use native.Mathlib.Numerals.{add-one}
 use native.Mathlib.Omega.{arith}
-use lib.ListN.{length, set, take}
+use lib.ListN.{length, set, take, drop, replicate}
 use lib.Seq.{length-take-le, getD-take}
 use borrow.Author.Tests.{eq-eqb, leb-true}
 use Rattle.limits.specs.Bounds.{maxBookings, maxDay, maxPrefetch, maxReserve}
@@ -30,7 +31,8 @@ use Rattle.model.specs.declared.Answer.the-variants.{Refused, Booked}
 use Rattle.load.specs.Stream.{noStream, lengthOf, profileOf}
 use Rattle.load.specs.Basic.{Playable, Within, EachOf}
 use Rattle.load.specs.declared.stream.Stream.{Stream}
-use Rattle.sheet.specs.Memory.{Agrees}
+use Rattle.sheet.specs.Memory.{Agrees, Settled}
+use Rattle.sheet.specs.SettleLaws.{settled-restored, settled-length}
 use Rattle.sheet.specs.Sheet.{Laid, Lays, Places, Raises, Raised}
 use Rattle.sheet.specs.LaidLaws.{length-worked, laid-raises, laid-raised}
 use Rattle.search.specs.Fit.{queryOf, startAt, fitsAt, answerOf, Window}
@@ -74,6 +76,29 @@ leaves-refused f day rows places q o r h n e k =
         (bookWith (settingAt f day) (stateOf day rows places o r h) q m (startOf (settingAt f day) (stateOf day rows places o r h) q)) (Refused m) day rows o r h
     go zero j = absurd (j refl)
     go (suc m) j = record { answer = refl; day = refl; rows = refl; opens = refl; reserves = refl; helds = refl }
+
+-- the list by round is looked at no further than its length
+pub asks-lent : (f : List ℕ) (day : Day) (rows : List Booking) (places : ℕ) (q : Request) (o r : ℕ) (h lent : List ℕ) (blank : Bool)
+    → Settled blank (day .rounds) lent h
+    → refusal (bookAsks f day rows places q o r (length h)) ≡ refusal (bookAsks f day rows places q o r (length lent))
+asks-lent f day rows places q o r h lent blank g =
+    ap (λ (m : ℕ). refusal (bookAsks f day rows places q o r m)) (settled-length blank (day .rounds) lent h g)
+
+-- nothing changes where that list was written by the questions and zeroed again
+pub leaves-restored : (f : List ℕ) (day : Day) (rows : List Booking) (places : ℕ) (q : Request) (o r h lent l : List ℕ) (blank : Bool) (n : ℕ)
+    → Settled blank (day .rounds) lent h
+    → ((blank ≡ true → l ≡ replicate (day .rounds) 0 ++ drop (day .rounds) h) × (blank ≡ false → l ≡ h))
+    → n ≡ refusal (bookAsks f day rows places q (length o) (length r) (length h)) → (n ≡ 0 → ⊥)
+    → Leaves (settingAt f day) (bookCall (settingAt f day) (stateOf day rows places o r lent) q) (Refused n) day rows o r l
+leaves-restored f day rows places q o r h lent l blank n g k e z =
+    rw (settled-restored blank (day .rounds) lent h l g k)
+    (leaves-refused f day rows places q o r lent n (e ∙ asks-lent f day rows places q (length o) (length r) h lent blank g) z)
+
+-- nor where it was not written
+pub leaves-left : (f : List ℕ) (day : Day) (rows : List Booking) (places : ℕ) (q : Request) (o r h l : List ℕ) (n : ℕ) → l ≡ h
+    → n ≡ refusal (bookAsks f day rows places q (length o) (length r) (length h)) → (n ≡ 0 → ⊥)
+    → Leaves (settingAt f day) (bookCall (settingAt f day) (stateOf day rows places o r h) q) (Refused n) day rows o r l
+leaves-left f day rows places q o r h l n e k z = rw e (leaves-refused f day rows places q o r h n k z)
 
 -- one more of each
 all-tied-snoc : (S : Setting) (f : List ℕ) (bs : List Booking) (xs : List Stream) → AllTied S f bs xs → (b : Booking) (x : Stream) → Tied S f b x

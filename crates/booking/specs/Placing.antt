@@ -1,6 +1,7 @@
 -- A request placed on the sheet of the standing bookings: what the search asks, and what its answer leaves to be done. A sheet
 -- that was laid first counts as the one that was lent. Assumes nothing.
 use mathlib.Core.Path.{_≡_, refl, sym, ap, _∙_}
+use mathlib.Core.Bool.{Bool}
 use mathlib.Core.List.{List}
 use Prim.Native.Nat.{ℕ, min, _+_, _≤_}
 use native.Mathlib.Decide.{decLe}
@@ -31,7 +32,9 @@ use Rattle.load.specs.Stream.{lengthOf, profileOf}
 use Rattle.table.specs.Streams.{streams}
 use Rattle.table.specs.Table.{Tabled}
 use Rattle.load.specs.declared.stream.Stream.{Stream}
+use Rattle.sheet.specs.Memory.{Settled}
 use Rattle.sheet.specs.Sheet.{Laid, Raises, Raised}
+use Rattle.sheet.specs.SettleLaws.{settled-laid}
 use Rattle.sheet.specs.LaidLaws.{length-worked}
 use Rattle.search.specs.Fit.{Query, queryOf, startAt, fitsAt, answerOf, HeldRows, Window}
 use Rattle.search.specs.ProfileLaws.{profile-rows}
@@ -43,7 +46,7 @@ use Rattle.questions.specs.ListSound.{StreamsOf}
 use Rattle.questions.specs.SheetOf.{sheet-kept}
 use Rattle.booking.specs.Contract.{Leaves, Placing, bookAsks}
 use Rattle.booking.specs.Own.{requestOf}
-use Rattle.booking.specs.Placed.{Started, stands, asks-same, kept-laid, sheet-of, in-range, window, leaves-none, starts}
+use Rattle.booking.specs.Placed.{Started, stands, asks-same, asks-lent, kept-laid, sheet-of, in-range, window, leaves-none, starts}
 
 module _ (f : List ℕ) (day : Day) (rows : List Booking) (places : ℕ) (q : Request) (xs : List Stream) (y : Stream) (hs o r h : List ℕ) (bytes : Bytes f)
     (full : length rows ≡ maxBookings) (g : Placing f day rows places q xs y hs o r h) where
@@ -147,6 +150,20 @@ module _ (f : List ℕ) (day : Day) (rows : List Booking) (places : ℕ) (q : Re
             reserves = k .reserves ∙ again (day .rounds) _ _ r₀ r (laid .reserved);
             helds = k .helds ∙ again (day .rounds) _ _ h₀ h (laid .held);
           }
+
+-- laid on a list by round that the questions wrote, it counts as laid on the list as it was lent
+module _ (f : List ℕ) (day : Day) (rows : List Booking) (places : ℕ) (q : Request) (xs : List Stream) (o₀ r₀ h₀ o r h : List ℕ)
+    (bytes : Bytes f) (full : length rows ≡ maxBookings)
+    (passed : refusal (bookAsks f day rows places q (length o₀) (length r₀) (length h₀)) ≡ 0)
+    (made : StreamsOf (catalogueOf f) (day .count) rows xs) (laid : Laid f (take (day .count) xs) (day .rounds) o₀ r₀ h₀ o r h) (lent : List ℕ)
+    (blank : Bool) (g : Settled blank (day .rounds) lent h₀) where
+  pub lent-leaves : (a : Answer) (d′ : Day) (rows′ : List Booking) (o′ r′ h′ : List ℕ)
+      → Leaves (settingAt f day) (bookCall (settingAt f day) (stateOf day rows places o r h) q) a d′ rows′ o′ r′ h′
+      → Leaves (settingAt f day) (bookCall (settingAt f day) (stateOf day rows places o₀ r₀ lent) q) a d′ rows′ o′ r′ h′
+  lent-leaves =
+      laid-leaves f day rows places q xs o₀ r₀ lent o r h bytes full
+      (sym (asks-lent f day rows places q (length o₀) (length r₀) h₀ lent blank g) ∙ passed) made
+      (settled-laid f (take (day .count) xs) blank (day .rounds) o₀ r₀ lent h₀ o r h g laid)
 
 -- ---- the table of the day's bookings
 

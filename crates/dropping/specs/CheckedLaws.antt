@@ -1,31 +1,34 @@
 -- A drop on a sheet that is laid first: it counts as a drop on the lent one. Assumes nothing.
 use mathlib.Core.Path.{_≡_, refl, sym, ap, _∙_, subst}
-use mathlib.Core.Bool.{Bool, true}
-use mathlib.Core.List.{List}
+use mathlib.Core.Bool.{Bool, true, false, true≢false}
+use mathlib.Core.List.{List, _++_}
 use Prim.Native.Nat.{ℕ, _≤_, min}
 use native.Mathlib.Decide.{decLe}
 use native.Mathlib.Omega.{arith}
-use lib.ListN.{length, take}
+use lib.ListN.{length, take, drop, replicate}
 use lib.Seq.{take-all, length-take-le}
 use Rattle.laws.specs.Questions.{refusal}
 use Rattle.limits.specs.Bounds.{maxBookings}
+use Rattle.limits.specs.Refusals.{noName}
 use Rattle.films.specs.Questions.{verdict}
 use Rattle.films.specs.Catalogue.{catalogueOf, catalogue-verdict}
 use Rattle.films.specs.declared.types.Catalogue.{Catalogue}
-use Rattle.model.specs.Day.{Setting}
+use Rattle.model.specs.Day.{Setting, State}
 use Rattle.model.specs.Calls.{workedOut, dropCall}
 use Rattle.model.specs.Code.{stateOf}
 use Rattle.model.specs.PlacesLaws.{workedOut-twice}
 use Rattle.model.specs.SoundLaws.{says-sound}
 use Rattle.model.specs.declared.Booking.{Booking}
 use Rattle.model.specs.declared.Day.{Day}
+use Rattle.model.specs.declared.Answer.the-variants.{Refused}
 use Rattle.load.specs.Basic.{EachOf}
 use Rattle.table.specs.Columns.{tableWords}
 use Rattle.table.specs.Streams.{streams}
 use Rattle.table.specs.Table.{Tabled}
-use Rattle.sheet.specs.Memory.{Agrees}
+use Rattle.sheet.specs.Memory.{Agrees, Settled}
 use Rattle.sheet.specs.Sheet.{Lays, Laid}
 use Rattle.sheet.specs.LaidLaws.{length-worked}
+use Rattle.sheet.specs.SettleLaws.{settled-restored, settled-length, settled-laid}
 use Rattle.questions.specs.Given.{settingAt}
 use Rattle.questions.specs.Numbers.{standingAsks}
 use Rattle.questions.specs.Standing.{Standing, standing-held}
@@ -37,7 +40,7 @@ use Rattle.questions.specs.SheetOf.{SheetOf, SheetKept, kept-agrees, laid-sheet
 use Rattle.dropping.specs.Contract.{Drops}
 use Rattle.dropping.specs.Removal.{Position}
 use Rattle.dropping.specs.Standing.{Stands}
-use Rattle.dropping.specs.Laws.{number-none}
+use Rattle.dropping.specs.Laws.{number-none, name-refused}
 use Rattle.dropping.specs.declared.DropOutcome.{DropOutcome}
 
 -- the first min n m of m elements are the first n
@@ -145,3 +148,40 @@ module _ (f : List ℕ) (day : Day) (rows : List Booking) (places : ℕ) (o₀ r
           reserves = rw none₀ ((rw none at (k .reserves)) ∙ again _ _ r₀ r (sheet .reserve-sums));
           helds = rw none₀ ((rw none at (k .helds)) ∙ again _ _ h₀ h (sheet .held-sums));
         }
+
+-- ---- where the questions wrote the list by round
+
+-- the questions look at it no further than its length
+pub standing-lent : (f : List ℕ) (day : Day) (rows : List Booking) (places o r : ℕ) (h lent : List ℕ) (blank : Bool) → Settled blank (day .rounds) lent h
+    → refusal (standingAsks f day rows places o r (length h)) ≡ refusal (standingAsks f day rows places o r (length lent))
+standing-lent f day rows places o r h lent blank g =
+    ap (λ (m : ℕ). refusal (standingAsks f day rows places o r m)) (settled-length blank (day .rounds) lent h g)
+
+-- a drop that is refused 19 and zeroes it again leaves everything as it was lent
+pub name-restored : (f : List ℕ) (day : Day) (rows : List Booking) (places : ℕ) (o r h lent l : List ℕ) (blank : Bool)
+    → Settled blank (day .rounds) lent h
+    → ((blank ≡ true → l ≡ replicate (day .rounds) 0 ++ drop (day .rounds) h) × (blank ≡ false → l ≡ h))
+    → refusal (standingAsks f day rows places (length o) (length r) (length h)) ≡ 0
+    → (name i : ℕ) (a : DropOutcome) → Position name rows (day .count) i → i ≡ day .count → a .answer ≡ Refused noName → a .day ≡ day → a .rows ≡ rows
+    → Drops (settingAt f day) (stateOf day rows places o r lent) name a o r l
+name-restored f day rows places o r h lent l blank g k passed name i a p e x y z =
+    rw (settled-restored blank (day .rounds) lent h l g k)
+    (name-refused f day rows places o r lent 0
+    (sym (sym (standing-lent f day rows places (length o) (length r) h lent blank g) ∙ passed)) name refl a i p e x y z)
+
+-- a refusal that did not write it leaves it
+pub drops-left : (S : Setting) (d : State) (name : ℕ) (a : DropOutcome) (o r h l : List ℕ) → l ≡ h → Drops S d name a o r h → Drops S d name a o r l
+drops-left S d name a o r h l e k = rw e k
+
+-- a drop on a sheet that is laid on it is a drop on the lent one
+pub lent-drops : (f : List ℕ) (day : Day) (rows : List Booking) (places : ℕ) (o₀ r₀ h₀ lent : List ℕ) (blank : Bool) → Settled blank (day .rounds) lent h₀
+    → refusal (standingAsks f day rows places (length o₀) (length r₀) (length h₀)) ≡ 0 → day .count ≤ length rows
+    → (table opened closed : List ℕ) (same : Bool) → Stands f day (take (day .count) rows) table opened closed same h₀
+    → (o r h : List ℕ) → Laid f (take (day .count) (streams table)) (day .rounds) o₀ r₀ h₀ o r h
+    → (name i : ℕ) → Position name rows (day .count) i → (i ≡ day .count → ⊥) → (a : DropOutcome) (o′ r′ h′ : List ℕ)
+    → Drops (settingAt f day) (stateOf day rows places o r h) name a o′ r′ h′
+    → Drops (settingAt f day) (stateOf day rows places o₀ r₀ lent) name a o′ r′ h′
+lent-drops f day rows places o₀ r₀ h₀ lent blank g passed room table opened closed same k o r h laid =
+    laid-drops f day rows places o₀ r₀ lent (sym (standing-lent f day rows places (length o₀) (length r₀) h₀ lent blank g) ∙ passed) room table opened closed
+    false (record { tabled = k .tabled; workspace = k .workspace; events = k .events; held = λ z. absurd (true≢false (sym z)) }) o r h
+    (settled-laid f (take (day .count) (streams table)) blank (day .rounds) o₀ r₀ lent h₀ o r h g laid)

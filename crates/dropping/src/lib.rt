@@ -15,10 +15,12 @@ use model::Booking;
 use model::Day;
 use questions::laying::lay_checked;
 use questions::standing::examine;
+use sheet::memory::restore;
 use table::streams::TABLE_WORDS;
 use table::tabulate::tabulate;
 ghost use mathlib.Core.Path.{_≡_};
-ghost use Prim.Native.Nat.{min};
+ghost use mathlib.Core.List.{List};
+ghost use Prim.Native.Nat.{ℕ, min};
 ghost use lib.ListN.{length, take};
 ghost use Rattle.laws.specs.Questions.{refusal};
 ghost use Rattle.films.specs.Catalogue.{catalogueOf};
@@ -26,6 +28,7 @@ ghost use Rattle.model.specs.Code.{stateOf};
 ghost use Rattle.questions.specs.Given.{settingAt};
 ghost use Rattle.questions.specs.Numbers.{standingAsks};
 ghost use Rattle.questions.specs.SheetOf.{SheetKept};
+ghost use Rattle.sheet.specs.Memory.{Settled};
 ghost use Rattle.dropping.specs.Contract.{Drops};
 ghost use Rattle.dropping.specs.Standing.{Stands};
 
@@ -87,7 +90,8 @@ fn smaller(a: usize, b: usize) -> usize
 }
 
 // The drop where the file's questions, 14, 15, 11 and 16 have passed, and the table, `opened`, `closed` and `same` are what they were
-// asked with and left: the sheet of the standing bookings is laid down, and the dropped one's stream taken out.
+// asked with and left: the sheet of the standing bookings is laid down, and the dropped one's stream taken out. Where `blank` the sums of
+// bytes held were lent as 0 and the questions wrote them: a refusal leaves nothing changed, so it zeroes them again.
 fn drop_checked(
     file: &[u8],
     c: Catalogue,
@@ -99,16 +103,18 @@ fn drop_checked(
     opened: &[u64],
     closed: &[u64],
     same: bool,
+    blank: bool,
     opens: &mut [u64],
     reserves: &mut [u64],
     helds: &mut [u64],
 ) -> DropOutcome
     requires { ⌜ (c ≡ catalogueOf (now file)) × (refusal (standingAsks (now file) day rows places (length (now opens)) (length (now reserves)) (length (now helds))) ≡ 0) × Stands (now file) day (take (day .count) rows) (now table) (now opened) (now closed) same (now helds) ⌝ }
-    ensures { λ r. ⌜ Drops (settingAt (now (file .entry)) day) (stateOf day rows places (now (opens .entry)) (now (reserves .entry)) (now (helds .entry))) name r (now (opens .exit)) (now (reserves .exit)) (now (helds .exit)) ⌝ }
+    ensures { λ r. ⌜ ((lent : List ℕ) → Settled blank (day .rounds) lent (now (helds .entry)) → Drops (settingAt (now (file .entry)) day) (stateOf day rows places (now (opens .entry)) (now (reserves .entry)) lent) name r (now (opens .exit)) (now (reserves .exit)) (now (helds .exit))) ⌝ }
 {
     let count = day.count as usize;
     let i = position(rows, count, name);
     if i == count {
+        restore(blank, day.rounds as usize, helds);
         return DropOutcome {
             answer: Answer::Refused(NO_NAME),
             day,
@@ -176,6 +182,7 @@ pub fn drop_booking(
         };
     }
     let same = examined.same;
+    let blank = examined.blank;
     drop_checked(
         file,
         c,
@@ -187,6 +194,7 @@ pub fn drop_booking(
         &opened,
         &closed,
         same,
+        blank,
         opens,
         reserves,
         helds,

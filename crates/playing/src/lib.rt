@@ -150,7 +150,7 @@ pub fn play(file: &[u8], day: Day, rows: [Booking; MAX_BOOKINGS], places: u64, r
 {
     let c = catalogue(file);
     let t = day.rounds as usize;
-    let none = [0u64; 1];
+    let mut none = [0u64; 1];
     let mut table = [0u64; TABLE_WORDS];
     let mut opened = [0u64; MAX_BOOKINGS];
     let mut closed = [0u64; MAX_BOOKINGS];
@@ -166,7 +166,7 @@ pub fn play(file: &[u8], day: Day, rows: [Booking; MAX_BOOKINGS], places: u64, r
         t,
         &mut opened,
         &mut closed,
-        &none,
+        &mut none,
     );
     if asked.number != 0 {
         return refused(asked.number, day);

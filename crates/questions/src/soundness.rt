@@ -17,23 +17,24 @@ ghost use Rattle.films.specs.Questions.{verdict};
 ghost use Rattle.load.specs.Basic.{Playable, Within, EachOf};
 ghost use Rattle.table.specs.Columns.{tableWords};
 ghost use Rattle.table.specs.Streams.{streams};
-ghost use Rattle.sheet.specs.Memory.{Agrees};
+ghost use Rattle.sheet.specs.Memory.{Agrees, Settled};
 ghost use Rattle.questions.specs.Events.{Gathered};
 ghost use Rattle.questions.specs.Sound.{streamsSound};
 ghost use Rattle.questions.specs.Listed.{Listed, Workspace, TellsSound, TellsHolds};
 
 // An answer that is no.
 fn unsound() -> Checked
-    ensures { λ r. ⌜ (r .kept ≡ false) × (r .same ≡ false) ⌝ }
+    ensures { λ r. ⌜ (r .kept ≡ false) × (r .same ≡ false) × (r .blank ≡ false) ⌝ }
 {
     Checked {
         kept: false,
         same: false,
+        blank: false,
     }
 }
 
 // Whether no cab shows two films, every round keeps both limits, and each stream has a schedule; and whether `helds` has what
-// they hold by round.
+// they hold by round, which is written there where it is blank.
 fn streams_sound(
     file: &[u8],
     table: &[u64],
@@ -43,10 +44,11 @@ fn streams_sound(
     memory: u64,
     opened: &[u64],
     closed: &[u64],
-    helds: &[u64],
+    helds: &mut [u64],
 ) -> Checked
     requires { ⌜ (tableWords ≤ length (now table)) × (count ≤ maxBookings) × EachOf (Playable (now file)) count (streams (now table)) × EachOf (Within rounds) count (streams (now table)) × Gathered (streams (now table)) count (now opened) (now closed) × (count ≤ length (now opened)) × (count ≤ length (now closed)) ⌝ }
-    ensures { λ r. ⌜ ((r .kept ≡ streamsSound (now (file .entry)) rounds disk memory (take count (streams (now (table .entry))))) × (r .same ≡ true → Agrees (now (file .entry)) (take count (streams (now (table .entry)))) (now (helds .entry)) 0 rounds)) ⌝ }
+    ensures { λ r. ⌜ ((r .kept ≡ streamsSound (now (file .entry)) rounds disk memory (take count (streams (now (table .entry))))) × (r .same ≡ true → Agrees (now (file .entry)) (take count (streams (now (table .entry)))) (now (helds .exit)) 0 rounds)) ⌝ }
+    ensures { λ r. ⌜ (Settled (r .blank) rounds (now (helds .entry)) (now (helds .exit)) × (r .kept ≡ false → r .blank ≡ false)) ⌝ }
 {
     if !pairs_clear(table, count) {
         return unsound();
@@ -66,11 +68,12 @@ fn sound_list(
     count: usize,
     opened: &mut [u64],
     closed: &mut [u64],
-    helds: &[u64],
+    helds: &mut [u64],
 ) -> Checked
     requires { ⌜ (verdict (now file) ≡ 0) × (count ≤ maxBookings) × (day .rounds ≤ maxDay) × Workspace (now table) (now opened) (now closed) × EachOf (Listed (now file)) count (streams (now table)) ⌝ }
-    ensures { λ r. ⌜ TellsSound (now (file .entry)) day (now (table .entry)) count (now (helds .entry)) r (now (opened .exit)) (now (closed .exit)) ⌝ }
+    ensures { λ r. ⌜ TellsSound (now (file .entry)) day (now (table .entry)) count (now (helds .exit)) r (now (opened .exit)) (now (closed .exit)) ⌝ }
     ensures { λ _. ⌜ Workspace (now (table .entry)) (now (opened .exit)) (now (closed .exit)) ⌝ }
+    ensures { λ r. ⌜ (Settled (r .blank) (day .rounds) (now (helds .entry)) (now (helds .exit)) × (r .kept ≡ false → r .blank ≡ false)) ⌝ }
 {
     if !names_differ(table, count) {
         return unsound();
@@ -100,11 +103,12 @@ pub fn sound_holds(
     places: u64,
     opened: &mut [u64],
     closed: &mut [u64],
-    helds: &[u64],
+    helds: &mut [u64],
 ) -> Checked
     requires { ⌜ (verdict (now file) ≡ 0) × (day .rounds ≤ maxDay) × Workspace (now table) (now opened) (now closed) × (day .count ≤ maxBookings → EachOf (Listed (now file)) (day .count) (streams (now table))) ⌝ }
-    ensures { λ r. ⌜ TellsHolds (now (file .entry)) day (now (table .entry)) places (now (helds .entry)) r (now (opened .exit)) (now (closed .exit)) ⌝ }
+    ensures { λ r. ⌜ TellsHolds (now (file .entry)) day (now (table .entry)) places (now (helds .exit)) r (now (opened .exit)) (now (closed .exit)) ⌝ }
     ensures { λ _. ⌜ Workspace (now (table .entry)) (now (opened .exit)) (now (closed .exit)) ⌝ }
+    ensures { λ r. ⌜ (Settled (r .blank) (day .rounds) (now (helds .entry)) (now (helds .exit)) × (r .kept ≡ false → r .blank ≡ false)) ⌝ }
 {
     let count = day.count;
     if (MAX_BOOKINGS as u64) < count {

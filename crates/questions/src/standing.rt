@@ -9,22 +9,26 @@ use limits::refusals::NO_ROOM;
 use limits::refusals::UNSOUND;
 use model::Day;
 ghost use mathlib.Core.Path.{_≡_};
+ghost use mathlib.Core.Bool.{false};
 ghost use Prim.Native.Nat.{_≤_};
 ghost use Rattle.limits.specs.Bounds.{maxBookings};
 ghost use Rattle.films.specs.Questions.{verdict};
 ghost use Rattle.load.specs.Basic.{EachOf};
 ghost use Rattle.table.specs.Streams.{streams};
+ghost use Rattle.sheet.specs.Memory.{Settled};
 ghost use Rattle.questions.specs.Listed.{Workspace, Listed, Examines};
 
-// The number of the first that says no, 0 if none does; and whether a list has what the standing bookings hold by round.
+// The number of the first that says no, 0 if none does; whether a list has what the standing bookings hold by round; and whether it was
+// 0 before it was written.
 pub struct Examined {
     pub number: u32,
     pub same: bool,
+    pub blank: bool,
 }
 
 // The number of the first that says no, where the sheet's lists are opens, reserves and held_places places long and the table is that of
-// the day's bookings; and if none does, whether the first T places of `helds` are what the standing bookings hold. Then `opened` and
-// `closed` have the rounds in which they open and end.
+// the day's bookings; and if none does, whether the first T places of `helds` are what the standing bookings hold: where they were all 0
+// they are written. Then `opened` and `closed` have the rounds in which they open and end.
 pub fn examine(
     file: &[u8],
     refused: u32,
@@ -36,34 +40,39 @@ pub fn examine(
     held_places: usize,
     opened: &mut [u64],
     closed: &mut [u64],
-    helds: &[u64],
+    helds: &mut [u64],
 ) -> Examined
     requires { ⌜ (refused ≡ verdict (now file)) × Workspace (now table) (now opened) (now closed) × (refused ≡ 0 → day .count ≤ maxBookings → EachOf (Listed (now file)) (day .count) (streams (now table))) ⌝ }
-    ensures { λ r. ⌜ Examines (now (file .entry)) day (now (table .entry)) places opens reserves «held_places» (now (helds .entry)) r (now (opened .exit)) (now (closed .exit)) ⌝ }
+    ensures { λ r. ⌜ Examines (now (file .entry)) day (now (table .entry)) places opens reserves «held_places» (now (helds .exit)) r (now (opened .exit)) (now (closed .exit)) ⌝ }
     ensures { λ _. ⌜ Workspace (now (table .entry)) (now (opened .exit)) (now (closed .exit)) ⌝ }
+    ensures { λ r. ⌜ (Settled (r .blank) (day .rounds) (now (helds .entry)) (now (helds .exit)) × ((r .number ≡ 0 → ⊥) → r .blank ≡ false)) ⌝ }
 {
     if refused != 0 {
         return Examined {
             number: refused,
             same: false,
+            blank: false,
         };
     }
     if !day_holds(day) {
         return Examined {
             number: DAY_ROUNDS,
             same: false,
+            blank: false,
         };
     }
     if !limits_hold(day.disk, day.memory) {
         return Examined {
             number: DAY_LIMITS,
             same: false,
+            blank: false,
         };
     }
     if !sheet_holds(day.rounds, opens, reserves, held_places) {
         return Examined {
             number: NO_ROOM,
             same: false,
+            blank: false,
         };
     }
     let list = sound_holds(file, day, table, places, opened, closed, helds);
@@ -71,10 +80,12 @@ pub fn examine(
         return Examined {
             number: UNSOUND,
             same: false,
+            blank: false,
         };
     }
     Examined {
         number: 0,
         same: list.same,
+        blank: list.blank,
     }
 }

@@ -9,3 +9,4 @@ pub mod FillLaws
 pub mod SheetLaws
 pub mod LaidLaws
 pub mod HeldLaws
+pub mod SettleLaws

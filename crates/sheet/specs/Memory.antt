@@ -1,9 +1,9 @@
 -- Memory's side of a day. Document 01: "In each round .. held ≤ M".
 use mathlib.Core.Path.{_≡_}
-use mathlib.Core.Bool.{Bool, cond, _&&_}
-use mathlib.Core.List.{List}
+use mathlib.Core.Bool.{Bool, true, false, cond, _&&_}
+use mathlib.Core.List.{List, _++_}
 use Prim.Native.Nat.{ℕ, zero, suc, _+_, _-_, _^_, _≤_, _<_, min, max}
-use lib.ListN.{length, getD, take}
+use lib.ListN.{length, getD, take, drop, replicate}
 use lib.Dec.{leb, ltb}
 use Rattle.limits.specs.Bounds.{maxBookings}
 use Rattle.laws.specs.Tests.{below}
@@ -90,3 +90,23 @@ pub record WindowKept (f : List ℕ) (xs : List Stream) (n M w e : ℕ) (carries
 pub record Agrees (f : List ℕ) (xs : List Stream) (list : List ℕ) (e T : ℕ) : Type 0 where
   pub long : T ≤ length list
   pub held : (t : ℕ) → e ≤ t → t < T → getD list t 0 ≡ heldIn f t xs
+
+-- ---- a list by round that is written where it was 0
+
+-- the n places from w on are a window's first n, and those after them are as they were
+pub record Put (w n : ℕ) (window before after : List ℕ) : Type 0 where
+  pub size : length after ≡ length before
+  pub placed : (k : ℕ) → k < n → getD after (w + k) 0 ≡ getD window k 0
+  pub rest : (t : ℕ) → w + n ≤ t → getD after t 0 ≡ getD before t 0
+
+-- the places from e on are as they were; all are unless the list was blank
+pub record Rest (blank : Bool) (e : ℕ) (before after : List ℕ) : Type 0 where
+  pub size : length after ≡ length before
+  pub rest : (t : ℕ) → e ≤ t → getD after t 0 ≡ getD before t 0
+  pub left : blank ≡ false → after ≡ before
+
+-- a list was written only where its first T places were 0, and only in those
+pub record Settled (blank : Bool) (T : ℕ) (before after : List ℕ) : Type 0 where
+  pub left : blank ≡ false → after ≡ before
+  pub long : blank ≡ true → T ≤ length after
+  pub zeros : blank ≡ true → before ≡ replicate T 0 ++ drop T after

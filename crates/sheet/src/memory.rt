@@ -6,9 +6,10 @@ use retrieval::clear::clear;
 use std::num::wrapping_sub_u64;
 use table::streams::stream_at;
 ghost use mathlib.Core.Path.{_≡_};
-ghost use mathlib.Core.Bool.{true, _&&_};
+ghost use mathlib.Core.Bool.{true, false, _&&_};
+ghost use mathlib.Core.List.{_++_};
 ghost use Prim.Native.Nat.{ℕ, _+_, _-_, _≤_, _<_, min, max};
-ghost use lib.ListN.{length, getD, take, replicate};
+ghost use lib.ListN.{length, getD, take, drop, replicate};
 ghost use lib.Dec.{leb, eqb};
 ghost use Rattle.limits.specs.Bounds.{maxBookings};
 ghost use Rattle.laws.specs.Tests.{all};
@@ -17,15 +18,17 @@ ghost use Rattle.load.specs.Stream.{heldIn};
 ghost use Rattle.table.specs.Columns.{tableWords};
 ghost use Rattle.table.specs.Streams.{streams};
 ghost use Rattle.sheet.specs.Memory.{feasible, memoryKept, Spans, later, openUntil, earlier, openFrom};
-ghost use Rattle.sheet.specs.Memory.{Windowed, Added, Fills, Filled, WindowKept, Agrees};
+ghost use Rattle.sheet.specs.Memory.{Windowed, Added, Fills, Filled, WindowKept, Agrees, Put, Rest, Settled};
 
 // rounds in a window, at most
 const WINDOW: usize = 4096;
 
-// Whether the rounds of a day keep the memory limit, and whether a list by round has just what is held in them.
+// Whether the rounds of a day keep the memory limit, whether a list by round has just what is held in them, and whether it was 0
+// before it was written.
 pub struct Checked {
     pub kept: bool,
     pub same: bool,
+    pub blank: bool,
 }
 
 // The larger of two.
@@ -210,8 +213,44 @@ fn empty_places(asked: bool, list: &[u64], a: usize, e: usize) -> bool
     joined == 0
 }
 
+// Writes the first n places of a window to the n places of a list from w on.
+fn put_places(list: &mut [u64], w: usize, window: &[u64], n: usize)
+    requires { ⌜ (w + n ≤ length (now list)) × (n ≤ length (now window)) ⌝ }
+    ensures { λ _. ⌜ Put w n (now (window .entry)) (now (list .entry)) (now (list .exit)) ⌝ }
+{
+    let mut i = 0;
+    while i < n {
+        list[w + i] = window[i];
+        i += 1;
+    }
+}
+
+// Whether the n places of a list from w on are the first n of a window; not asked unless `asked`. In a blank list they become so.
+fn settle_places(
+    blank: bool,
+    asked: bool,
+    list: &mut [u64],
+    w: usize,
+    window: &[u64],
+    n: usize,
+) -> bool
+    requires { ⌜ ((asked ≡ true → w + n ≤ length (now list)) × (n ≤ length (now window))) ⌝ }
+    ensures { λ r. ⌜ (r ≡ true → (asked ≡ true) × ((k : ℕ) → k < n → getD (now (list .exit)) (w + k) 0 ≡ getD (now (window .entry)) k 0)) ⌝ }
+    ensures { λ _. ⌜ Rest blank (w + n) (now (list .entry)) (now (list .exit)) ⌝ }
+{
+    if !blank {
+        return same_places(asked, list, w, window, n);
+    }
+    if !asked {
+        return false;
+    }
+    put_places(list, w, window, n);
+    true
+}
+
 // Whether the rounds from w to e - 1 keep the memory limit, tested in a list of as many places, and whether `helds` has what
-// is held in them. Turns `carries`, those of the first `count` streams' rounds from e on, into those of their rounds from w on.
+// is held in them, which is written there where it is blank. Turns `carries`, those of the first `count` streams' rounds from e on,
+// into those of their rounds from w on.
 fn window_kept(
     file: &[u8],
     table: &[u64],
@@ -221,18 +260,20 @@ fn window_kept(
     e: usize,
     carries: &mut [u64],
     memory: u64,
+    blank: bool,
     asked: bool,
-    helds: &[u64],
+    helds: &mut [u64],
 ) -> Checked
     requires { ⌜ (tableWords ≤ length (now table)) × (length (now window) ≡ e - w) × Fills (now file) (streams (now table)) count (replicate (e - w) 0) w e (now carries) × (asked ≡ true → e ≤ length (now helds)) ⌝ }
-    ensures { λ r. ⌜ (WindowKept (now (file .entry)) (streams (now (table .entry))) count memory w e (now (carries .exit)) (r .kept) × (r .same ≡ true → (asked ≡ true) × ((t : ℕ) → w ≤ t → t < e → getD (now (helds .entry)) t 0 ≡ heldIn (now (file .entry)) t (take count (streams (now (table .entry))))))) ⌝ }
+    ensures { λ r. ⌜ (WindowKept (now (file .entry)) (streams (now (table .entry))) count memory w e (now (carries .exit)) (r .kept) × (r .same ≡ true → (asked ≡ true) × ((t : ℕ) → w ≤ t → t < e → getD (now (helds .exit)) t 0 ≡ heldIn (now (file .entry)) t (take count (streams (now (table .entry))))))) ⌝ }
+    ensures { λ _. ⌜ Rest blank e (now (helds .entry)) (now (helds .exit)) ⌝ }
 {
     let n = e - w;
     clear(window, n);
     window_fill(file, table, count, window, w, e, carries);
     let kept = window_within(window, n, memory);
-    let same = same_places(asked, helds, w, window, n);
-    Checked { kept, same }
+    let same = settle_places(blank, asked, helds, w, window, n);
+    Checked { kept, same, blank }
 }
 
 // Whether the first `count` are all 0.
@@ -251,17 +292,19 @@ fn none_left(carries: [u64; MAX_BOOKINGS], count: usize) -> bool
 }
 
 // Whether every round of the day keeps the memory limit and every stream has a schedule; and if they do, whether the first T
-// places of `helds` are what is held by round. A list that is shorter is not looked at.
-pub fn held_within(
+// places of `helds` are what is held by round. A list that is shorter is not looked at, and one that is blank is written.
+fn held_windows(
     file: &[u8],
     table: &[u64],
     count: usize,
     day_rounds: usize,
     memory: u64,
-    helds: &[u64],
+    blank: bool,
+    helds: &mut [u64],
 ) -> Checked
-    requires { ⌜ (tableWords ≤ length (now table)) × (count ≤ maxBookings) × EachOf (Playable (now file)) count (streams (now table)) × EachOf (Within «day_rounds») count (streams (now table)) ⌝ }
-    ensures { λ r. ⌜ ((r .kept ≡ memoryKept (now (file .entry)) memory «day_rounds» (take count (streams (now (table .entry)))) && all (feasible (now (file .entry))) (take count (streams (now (table .entry))))) × (r .same ≡ true → Agrees (now (file .entry)) (take count (streams (now (table .entry)))) (now (helds .entry)) 0 «day_rounds»)) ⌝ }
+    requires { ⌜ (tableWords ≤ length (now table)) × (count ≤ maxBookings) × EachOf (Playable (now file)) count (streams (now table)) × EachOf (Within «day_rounds») count (streams (now table)) × Settled blank «day_rounds» (now helds) (now helds) ⌝ }
+    ensures { λ r. ⌜ ((r .kept ≡ memoryKept (now (file .entry)) memory «day_rounds» (take count (streams (now (table .entry)))) && all (feasible (now (file .entry))) (take count (streams (now (table .entry))))) × (r .same ≡ true → Agrees (now (file .entry)) (take count (streams (now (table .entry)))) (now (helds .exit)) 0 «day_rounds»)) ⌝ }
+    ensures { λ r. ⌜ Settled (r .blank) «day_rounds» (now (helds .entry)) (now (helds .exit)) ⌝ }
 {
     let mut starts = [0usize; MAX_BOOKINGS];
     let mut ends = [0usize; MAX_BOOKINGS];
@@ -283,6 +326,7 @@ pub fn held_within(
             e,
             &mut carries,
             memory,
+            blank,
             same,
             helds,
         );
@@ -290,11 +334,71 @@ pub fn held_within(
             return Checked {
                 kept: false,
                 same: false,
+                blank,
             };
         }
         e = open_until(&starts, &ends, count, w);
         same = empty_places(checked.same, helds, e, w);
     }
     let kept = none_left(carries, count);
-    Checked { kept, same }
+    Checked { kept, same, blank }
+}
+
+// Whether a list of T places may be blank. One that has something in the last round of the first stream is not, which spares the look
+// at all places of a list that is right.
+fn maybe_blank(table: &[u64], count: usize, day_rounds: usize, helds: &[u64]) -> bool
+    requires { ⌜ (tableWords ≤ length (now table)) × (count ≤ maxBookings) × EachOf Bounded count (streams (now table)) × EachOf (Within «day_rounds») count (streams (now table)) ⌝ }
+    ensures { λ r. ⌜ (r ≡ true → «day_rounds» ≤ length (now (helds .entry))) ⌝ }
+{
+    if helds.len() < day_rounds {
+        return false;
+    }
+    if count == 0 {
+        return false;
+    }
+    let x = stream_at(table, 0);
+    let end = x.start + x.prefetch + x.rounds;
+    if end == 0 {
+        return false;
+    }
+    helds[end - 1] == 0
+}
+
+// Zeroes the first T places of a list again that was blank before it was written.
+pub fn restore(blank: bool, day_rounds: usize, helds: &mut [u64])
+    requires { ⌜ (blank ≡ true → «day_rounds» ≤ length (now helds)) ⌝ }
+    ensures { λ _. ⌜ ((blank ≡ true → now (helds .exit) ≡ replicate «day_rounds» 0 ++ drop «day_rounds» (now (helds .entry))) × (blank ≡ false → now (helds .exit) ≡ now (helds .entry))) ⌝ }
+{
+    if blank {
+        clear(helds, day_rounds);
+    }
+}
+
+// Whether every round of the day keeps the memory limit and every stream has a schedule; and if they do, whether the first T
+// places of `helds` are what is held by round. Where they are all 0, as after a restart, they are written in the same pass; that is
+// told as `blank`. Else, and where the answer is no, the list stays as it is.
+pub fn held_within(
+    file: &[u8],
+    table: &[u64],
+    count: usize,
+    day_rounds: usize,
+    memory: u64,
+    helds: &mut [u64],
+) -> Checked
+    requires { ⌜ (tableWords ≤ length (now table)) × (count ≤ maxBookings) × EachOf (Playable (now file)) count (streams (now table)) × EachOf (Within «day_rounds») count (streams (now table)) ⌝ }
+    ensures { λ r. ⌜ ((r .kept ≡ memoryKept (now (file .entry)) memory «day_rounds» (take count (streams (now (table .entry)))) && all (feasible (now (file .entry))) (take count (streams (now (table .entry))))) × (r .same ≡ true → Agrees (now (file .entry)) (take count (streams (now (table .entry)))) (now (helds .exit)) 0 «day_rounds»)) ⌝ }
+    ensures { λ r. ⌜ (Settled (r .blank) «day_rounds» (now (helds .entry)) (now (helds .exit)) × (r .kept ≡ false → r .blank ≡ false)) ⌝ }
+{
+    let asked = maybe_blank(table, count, day_rounds, helds);
+    let blank = empty_places(asked, helds, 0, day_rounds);
+    let checked = held_windows(file, table, count, day_rounds, memory, blank, helds);
+    if checked.kept {
+        return checked;
+    }
+    restore(checked.blank, day_rounds, helds);
+    Checked {
+        kept: false,
+        same: false,
+        blank: false,
+    }
 }

@@ -2,6 +2,7 @@
 -- first that fits. Assumes nothing.
 use borrow.Author.Needs.{needs}
 use mathlib.Core.Path.{_≡_, sym, ap, _∙_}
+use Prim.Native.Nat.{ℕ}
 use native.Mathlib.Omega.{arith}
 use lib.ListN.{length, take}
 use Rattle.limits.specs.Bounds.{maxBookings}
@@ -15,9 +16,11 @@ use Rattle.model.specs.FirstFit.{book-first}
 use Rattle.load.specs.Streams.{streamOf}
 use Rattle.table.specs.Table.{Tabled}
 use Rattle.questions.specs.Given.{settingAt}
+use Rattle.sheet.specs.SettleLaws.{settled-length}
+use Rattle.questions.specs.Numbers.{standingAsks}
 use Rattle.questions.specs.Standing.{standing-first}
 use Rattle.booking.specs.Contract.{bookAsks}
-use Rattle.booking.specs.Placed.{asks-same, leaves-refused}
+use Rattle.booking.specs.Placed.{asks-same, leaves-left}
 use Rattle.booking.specs.Placing.{tabled-count, listed-count}
 use Rattle.booking.proofs.book.Statement.{statement}
 use Rattle.booking.proofs.book.Tie as tie
@@ -68,17 +71,19 @@ same-length c = search needs
 
 returns : tie.Need-returns
 returns c =
-    let start = c .before .before .before .before .before .before .before .before .before .before .before .before .before .before .before .before .before in
+    let start = c .before .before .before .before .before .before .before .before .before .before .before .before .before .before .before .before .before .before .before in
     let a = start .args in
     let f = a .file .now in
     let full : length (a .rows) ≡ maxBookings = omega (arith, start) in
-    let table = c .before .before .before .before .before .before .before .before .before .tabulate .last .1 .1 .1 .0 in
+    let table = c .before .before .before .before .before .before .before .before .before .before .before .tabulate .last .1 .1 .1 .0 in
     let tabled : Tabled (catalogueOf f) (take (a .day .count) (a .rows)) table =
-    tabled-count (catalogueOf f) (a .rows) (a .day .count) (c .before .before .before .before .before .before .before .before .before .before .before .smaller .result) table full (c .before .before .before .before .before .before .before .before .before .before .before .smaller .ensures) (rw (c .before .before .before .before .before .before .before .before .before .before .before .before .catalogue .ensures) at (c .before .before .before .before .before .before .before .before .before .tabulate .ensures .0)) in
-    let number = c .before .before .before .examine in
+    tabled-count (catalogueOf f) (a .rows) (a .day .count) (c .before .before .before .before .before .before .before .before .before .before .before .before .before .smaller .result) table full (c .before .before .before .before .before .before .before .before .before .before .before .before .before .smaller .ensures) (rw (c .before .before .before .before .before .before .before .before .before .before .before .before .before .before .catalogue .ensures) at (c .before .before .before .before .before .before .before .before .before .before .before .tabulate .ensures .0)) in
+    let number = c .before .before .before .before .before .examine in
+    let settled = number .ensures .1 .1 in
     let first : number .result .number ≡ refusal (bookAsks f (a .day) (a .rows) (a .places) (a .q) (length (a .opens .now)) (length (a .reserves .now)) (length (a .helds .now))) =
     sym (standing-first f (a .day) (a .rows) (a .places) (length (a .opens .now)) (length (a .reserves .now)) (length (a .helds .now)) _ (number .result .number) (number .ensures .0 .number (a .rows) full tabled) (c .if1 .taken)) in (
-      leaves-refused f (a .day) (a .rows) (a .places) (a .q) (a .opens .now) (a .reserves .now) (a .helds .now) (number .result .number) first (c .if1 .taken),
+      leaves-left f (a .day) (a .rows) (a .places) (a .q) (a .opens .now) (a .reserves .now) (a .helds .now) (number .last .1 .1 .1 .1 .1 .1 .1 .1 .1 .1 .0) (number .result .number)
+          (settled .0 .left (settled .1 (c .if1 .taken))) first (c .if1 .taken),
       λ e.
           absurd
           (c .if1 .taken
@@ -101,18 +106,22 @@ slice-aggregate-book-checked-3 c = search needs
 
 book-checked-requires : tie.Need-book-checked-requires
 book-checked-requires c κs =
-    let start = c .before .before .before .before .before .before .before .before .before .before .before .before .before .before .before .before .before .before .before .before .before .before .before .before in
+    let start = c .before .before .before .before .before .before .before .before .before .before .before .before .before .before .before .before .before .before .before .before .before .before .before .before .before .before in
     let a = start .args in
     let f = a .file .now in
     let full : length (a .rows) ≡ maxBookings = omega (arith, start) in
-    let table = c .before .before .before .before .before .before .before .before .before .before .before .before .before .before .before .before .tabulate .last .1 .1 .1 .0 in
+    let table = c .before .before .before .before .before .before .before .before .before .before .before .before .before .before .before .before .before .before .tabulate .last .1 .1 .1 .0 in
     let tabled : Tabled (catalogueOf f) (take (a .day .count) (a .rows)) table =
-    tabled-count (catalogueOf f) (a .rows) (a .day .count) (c .before .before .before .before .before .before .before .before .before .before .before .before .before .before .before .before .before .before .smaller .result) table full (c .before .before .before .before .before .before .before .before .before .before .before .before .before .before .before .before .before .before .smaller .ensures) (rw (c .before .before .before .before .before .before .before .before .before .before .before .before .before .before .before .before .before .before .before .catalogue .ensures) at (c .before .before .before .before .before .before .before .before .before .before .before .before .before .before .before .before .tabulate .ensures .0)) in
-    let examined = c .before .before .before .before .before .before .before .before .before .before .examine .ensures in
-    let passed = c .before .before .before .before .before .before .before .if1 .left in (
-      c .before .before .before .before .before .requested .ensures ∙ ap (λ (k : Catalogue). streamOf k (recordOf (a .q) 0)) (c .before .before .before .before .before .before .before .before .before .before .before .before .before .before .before .before .before .before .before .catalogue .ensures),
-      sym (examined .0 .number (a .rows) full tabled) ∙ passed,
-      examined .1,
+    tabled-count (catalogueOf f) (a .rows) (a .day .count) (c .before .before .before .before .before .before .before .before .before .before .before .before .before .before .before .before .before .before .before .before .smaller .result) table full (c .before .before .before .before .before .before .before .before .before .before .before .before .before .before .before .before .before .before .before .before .smaller .ensures) (rw (c .before .before .before .before .before .before .before .before .before .before .before .before .before .before .before .before .before .before .before .before .before .catalogue .ensures) at (c .before .before .before .before .before .before .before .before .before .before .before .before .before .before .before .before .before .before .tabulate .ensures .0)) in
+    let number = c .before .before .before .before .before .before .before .before .before .before .before .before .examine in
+    let examined = number .ensures in
+    let passed = c .before .before .before .before .before .before .before .if1 .left in
+    let size = settled-length (number .result .blank) (a .day .rounds) (a .helds .now) (number .last .1 .1 .1 .1 .1 .1 .1 .1 .1 .1 .0) (examined .1 .1 .0) in (
+      c .before .before .before .before .before .requested .ensures ∙ ap (λ (k : Catalogue). streamOf k (recordOf (a .q) 0)) (c .before .before .before .before .before .before .before .before .before .before .before .before .before .before .before .before .before .before .before .before .before .catalogue .ensures),
+      ap (λ (m : ℕ). refusal (standingAsks f (a .day) (a .rows) (a .places) (length (a .opens .now)) (length (a .reserves .now)) m)) size
+          ∙ sym (examined .0 .number (a .rows) full tabled)
+          ∙ passed,
+      examined .1 .0,
       tabled,
       examined .0 .events passed,
       examined .0 .held (a .rows) full tabled,
@@ -129,11 +138,10 @@ same-length-4 c = search needs
 
 returns-2 : tie.Need-returns-2
 returns-2 c =
-    let start = c .before .before .before .before .before .before .before .before .before .before .before .before .before .before .before .before .before .before .before .before .before .before .before .before .before .before .before .before .before .before .before in
+    let start = c .before .before .before .before .before .before .before .before .before .before .before .before .before .before .before .before .before .before .before .before .before .before .before .before .before .before .before .before .before .before .before .before .before in
     let a = start .args in
     let f = a .file .now in
-    let full : length (a .rows) ≡ maxBookings = omega (arith, start) in
-    let booked = c .before .before .before .before .before .before .book-checked .ensures in (
+    let booked = c .before .before .before .before .before .before .book-checked .ensures (a .helds .now) (c .before .before .before .before .before .before .before .before .before .before .before .before .before .before .before .before .before .before .before .examine .ensures .1 .1 .0) in (
       booked,
       λ e. rw (booked .answer) (book-first (settingAt f (a .day)) (stateOf (a .day) (a .rows) (a .places) (a .opens .now) (a .reserves .now) (a .helds .now)) (a .q) e),
     )

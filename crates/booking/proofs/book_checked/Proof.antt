@@ -1,5 +1,5 @@
--- `booking::book_checked` meets its contract: booking's own questions decide; where none says no the sheet laid is that of the standing bookings,
--- and a call on it is a call on the lent one. Assumes nothing.
+-- `booking::book_checked` meets its contract: booking's own questions decide, and where one says no the list by round is as it was lent; where
+-- none does the sheet laid is that of the standing bookings, and a call on it is a call on the lent one. Assumes nothing.
 use borrow.Author.Needs.{needs}
 use mathlib.Core.Path.{_≡_, sym, ap, _∙_}
 use Prim.Native.Nat.{_≤_}
@@ -14,8 +14,8 @@ use Rattle.table.specs.Streams.{streams}
 use Rattle.questions.specs.ListSound.{tabled-streams}
 use Rattle.questions.specs.Standing.{standing-held}
 use Rattle.booking.specs.Own.{maxLength}
-use Rattle.booking.specs.Placed.{own-decides, leaves-refused, short, lays, held-agrees}
-use Rattle.booking.specs.Placing.{laid-placing, laid-leaves}
+use Rattle.booking.specs.Placed.{own-decides, leaves-restored, short, lays, held-agrees}
+use Rattle.booking.specs.Placing.{laid-placing, lent-leaves}
 use Rattle.booking.proofs.book_checked.Statement.{statement}
 use Rattle.booking.proofs.book_checked.Tie as tie
 
@@ -35,17 +35,28 @@ own-number-requires c κs =
     let s = standing-held f (a .day) (a .rows) (a .places) (length (a .opens .now)) (length (a .reserves .now)) (length (a .helds .now)) (start .pre .1) in
     (start .pre .0, s .accepted, s .few, s .rounds, start .pre .2 .words, search needs)
 
+restore-requires : tie.Need-restore-requires
+restore-requires c κs =
+    let start = c .before .before .before .before .before .before .before .before .before .before .before .before in
+    let a = start .args in
+    let s = standing-held (a .file .now) (a .day) (a .rows) (a .places) (length (a .opens .now)) (length (a .reserves .now)) (length (a .helds .now)) (start .pre .1) in
+    λ z. s .helds
+
+same-length : tie.Need-same-length
+same-length c = search needs
+
 returns : tie.Need-returns
 returns c =
-    let start = c .before .before .before .before .before .before .before .before .before .before .before in
+    let start = c .before .before .before .before .before .before .before .before .before .before .before .before .before .before .before in
     let a = start .args in
     let f = a .file .now in
-    let xs = streams (a .table .now) in
     let full : length (a .rows) ≡ maxBookings = omega (arith, start) in
-    let s = standing-held f (a .day) (a .rows) (a .places) (length (a .opens .now)) (length (a .reserves .now)) (length (a .helds .now)) (start .pre .1) in
-    let number = c .before .before .own-number in
+    let number = c .before .before .before .before .before .before .own-number in
     let n = own-decides f (a .day) (a .rows) (a .places) (a .q) (length (a .opens .now)) (length (a .reserves .now)) (length (a .helds .now)) (number .result) (start .pre .1) (number .ensures .number (a .rows) full (start .pre .3)) in
-    leaves-refused f (a .day) (a .rows) (a .places) (a .q) (a .opens .now) (a .reserves .now) (a .helds .now) (number .result) n (c .if1 .taken)
+    let restored = c .before .before .restore in
+    λ lent g.
+    leaves-restored f (a .day) (a .rows) (a .places) (a .q) (a .opens .now) (a .reserves .now) (a .helds .now) lent (restored .last .1 .1 .0) (a .blank) (number .result) g
+    (restored .ensures) n (c .before .before .before .before .if1 .taken)
 
 lay-checked-requires : tie.Need-lay-checked-requires
 lay-checked-requires c κs =
@@ -142,14 +153,14 @@ place-on-requires c κs =
 record-answer-requires : tie.Need-record-answer-requires
 record-answer-requires c κs = c .before .before .before .before .before .before .place-on .ensures .recordable
 
-same-length : tie.Need-same-length
-same-length c = search needs
-
 same-length-2 : tie.Need-same-length-2
 same-length-2 c = search needs
 
 same-length-3 : tie.Need-same-length-3
 same-length-3 c = search needs
+
+same-length-4 : tie.Need-same-length-4
+same-length-4 c = search needs
 
 returns-2 : tie.Need-returns-2
 returns-2 c =
@@ -167,9 +178,10 @@ returns-2 c =
     let laid = c .before .before .before .before .before .before .before .before .before .before .before .before .before .before .before .before .before .before .before .lay-checked .ensures in
     let placing = laid-placing f (a .day) (a .rows) (a .places) (a .q) xs (a .opens .now) (a .reserves .now) (a .helds .now) _ _ _ (bytes known) full passed made laid (a .y) _ (start .pre .0) (number .ensures .held (c .before .before .before .before .before .before .before .before .before .before .before .before .before .before .before .before .before .before .before .before .before .before .before .if1 .left)) in
     let left = c .record-answer .ensures in
+    λ lent g.
     rw (left .0, left .1, left .2)
-    (laid-leaves f (a .day) (a .rows) (a .places) (a .q) xs (a .opens .now) (a .reserves .now) (a .helds .now) _ _ _ (bytes known) full passed made laid _ _ _ _ _ _
-    (c .before .before .before .before .before .before .before .place-on .ensures .leaves f (a .rows) (a .places) (bytes known) full placing))
+    (lent-leaves f (a .day) (a .rows) (a .places) (a .q) xs (a .opens .now) (a .reserves .now) (a .helds .now) _ _ _ (bytes known) full passed made laid lent (a .blank) g
+    _ _ _ _ _ _ (c .before .before .before .before .before .before .before .place-on .ensures .leaves f (a .rows) (a .places) (bytes known) full placing))
 
 pub book-checked-spec : {M : Type 1} → statement M
 book-checked-spec =
@@ -177,6 +189,8 @@ book-checked-spec =
     (tie.spec
     slice-aggregate-own-number
     own-number-requires
+    restore-requires
+    same-length
     returns
     lay-checked-requires
     add-n
@@ -184,7 +198,7 @@ book-checked-spec =
     slice-aggregate-place-on
     place-on-requires
     record-answer-requires
-    same-length
     same-length-2
     same-length-3
+    same-length-4
     returns-2)

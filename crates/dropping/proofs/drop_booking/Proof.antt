@@ -5,7 +5,7 @@ use native.Mathlib.Omega.{arith}
 use borrow.Author.Needs.{needs}
 use Rattle.films.specs.Ordered.{catalogue-ordered}
 use Rattle.dropping.specs.Laws.{standing-refused}
-use Rattle.dropping.specs.CheckedLaws.{day-tabled, examine-asks}
+use Rattle.dropping.specs.CheckedLaws.{day-tabled, examine-asks, standing-lent, drops-left}
 use Rattle.dropping.proofs.drop_booking.Statement.{statement}
 use Rattle.dropping.proofs.drop_booking.Tie as tie
 
@@ -49,15 +49,17 @@ same-length c = search needs
 
 returns : tie.Need-returns
 returns c =
-    let tabled = c .before .before .before .before .before .before .before .before .before in
-    let listed = tabled .before .before in
-    let made = listed .before in
-    let start = made .before .before .before .before .before in
+    let tabled = c .before .before .before .before .before .before .before .before .before .before .before in
+    let listed = c .before .before .before .before .before .before .before .before .before .before .before .before .before in
+    let made = c .before .before .before .before .before .before .before .before .before .before .before .before .before .before in
+    let start = c .before .before .before .before .before .before .before .before .before .before .before .before .before .before .before .before .before .before .before in
     let a = start .args in
-    let asked = c .before .before .before .examine in
-    standing-refused (a .file .now) (a .day) (a .rows) (a .places) (a .opens .now) (a .reserves .now) (a .helds .now) (asked .result .number)
+    let asked = c .before .before .before .before .before .examine in
+    let settled = asked .ensures .1 .1 in
+    drops-left _ _ (a .name) _ (a .opens .now) (a .reserves .now) (a .helds .now) (asked .last .1 .1 .1 .1 .1 .1 .1 .1 .1 .1 .0) (settled .0 .left (settled .1 (c .if1 .taken)))
+    (standing-refused (a .file .now) (a .day) (a .rows) (a .places) (a .opens .now) (a .reserves .now) (a .helds .now) (asked .result .number)
     (asked .ensures .0 .number (a .rows) (omega (arith, start)) (day-tabled (a .file .now) (made .catalogue .result) (a .day) (a .rows) (made .catalogue .ensures) (omega (arith, start)) (listed .smaller .result)
-    (listed .smaller .ensures) (tabled .tabulate .last .1 .1 .1 .0) (tabled .tabulate .ensures .0))) (a .name) _ (c .if1 .taken) refl refl refl
+    (listed .smaller .ensures) (tabled .tabulate .last .1 .1 .1 .0) (tabled .tabulate .ensures .0))) (a .name) _ (c .if1 .taken) refl refl refl)
 
 slice-aggregate-drop-checked : tie.Need-slice-aggregate-drop-checked
 slice-aggregate-drop-checked c = search needs
@@ -70,22 +72,25 @@ slice-aggregate-drop-checked-3 c = search needs
 
 drop-checked-requires : tie.Need-drop-checked-requires
 drop-checked-requires c κs =
-    let tabled = c .before .before .before .before .before .before .before .before .before .before .before .before .before .before .before in
-    let listed = tabled .before .before in
-    let made = listed .before in
-    let start = made .before .before .before .before .before in
+    let tabled = c .before .before .before .before .before .before .before .before .before .before .before .before .before .before .before .before .before in
+    let listed = c .before .before .before .before .before .before .before .before .before .before .before .before .before .before .before .before .before .before .before in
+    let made = c .before .before .before .before .before .before .before .before .before .before .before .before .before .before .before .before .before .before .before .before in
+    let start = c .before .before .before .before .before .before .before .before .before .before .before .before .before .before .before .before .before .before .before .before .before .before .before .before .before in
     let a = start .args in
-    let passed = c .before .before .before .before .before .before in
-    let asked = c .before .before .before .before .before .before .before .before .before .examine in
+    let passed = c .before .before .before .before .before .before .if1 .left in
+    let asked = c .before .before .before .before .before .before .before .before .before .before .before .examine in
+    let told = asked .ensures in
     let table = day-tabled (a .file .now) (made .catalogue .result) (a .day) (a .rows) (made .catalogue .ensures) (omega (arith, start)) (listed .smaller .result)
     (listed .smaller .ensures) (tabled .tabulate .last .1 .1 .1 .0) (tabled .tabulate .ensures .0) in (
       made .catalogue .ensures,
-      sym (asked .ensures .0 .number (a .rows) (omega (arith, start)) table) ∙ passed .if1 .left,
+      standing-lent (a .file .now) (a .day) (a .rows) (a .places) _ _ (asked .last .1 .1 .1 .1 .1 .1 .1 .1 .1 .1 .0) (a .helds .now) (asked .result .blank) (told .1 .1 .0)
+          ∙ sym (told .0 .number (a .rows) (omega (arith, start)) table)
+          ∙ passed,
       record {
         tabled = table;
-        workspace = asked .ensures .1;
-        events = asked .ensures .0 .events (passed .if1 .left);
-        held = asked .ensures .0 .held (a .rows) (omega (arith, start)) table;
+        workspace = told .1 .0;
+        events = told .0 .events passed;
+        held = told .0 .held (a .rows) (omega (arith, start)) table;
       },
     )
 
@@ -99,7 +104,7 @@ same-length-4 : tie.Need-same-length-4
 same-length-4 c = search needs
 
 returns-2 : tie.Need-returns-2
-returns-2 c = search needs
+returns-2 c = c .before .before .before .before .before .before .drop-checked .ensures (c .before .before .before .before .before .before .before .before .before .before .before .before .before .before .before .before .before .before .before .before .before .before .before .before .before .before .before .before .before .before .before .before .args .helds .now) (c .before .before .before .before .before .before .before .before .before .before .before .before .before .before .before .before .before .before .examine .ensures .1 .1 .0)
 
 pub drop-booking-spec : {M : Type 1} → statement M
 drop-booking-spec =

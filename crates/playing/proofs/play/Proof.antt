@@ -62,11 +62,11 @@ refused-requires c κs = search needs
 
 returns : tie.Need-returns
 returns c =
-    let asked = c .before .before .before .before .before .examine in
-    let tabled = c .before .before .before .before .before .before .before .before .before .before .before .tabulate in
-    let few = c .before .before .before .before .before .before .before .before .before .before .before .before .before .placed in
-    let made = c .before .before .before .before .before .before .before .before .before .before .before .before .before .before .catalogue in
-    let start = c .before .before .before .before .before .before .before .before .before .before .before .before .before .before .before .before in
+    let asked = c .before .before .before .before .before .before .examine in
+    let tabled = c .before .before .before .before .before .before .before .before .before .before .before .before .tabulate in
+    let few = c .before .before .before .before .before .before .before .before .before .before .before .before .before .before .placed in
+    let made = c .before .before .before .before .before .before .before .before .before .before .before .before .before .before .before .catalogue in
+    let start = c .before .before .before .before .before .before .before .before .before .before .before .before .before .before .before .before .before in
     let a = start .args in
     let f = a .file .now in
     let table = tabled .last .1 .1 .1 .0 in
@@ -82,11 +82,11 @@ slice-aggregate-play-table c = search needs
 
 play-table-requires : tie.Need-play-table-requires
 play-table-requires c κs =
-    let asked = c .before .before .before .before .before .examine in
-    let tabled = c .before .before .before .before .before .before .before .before .before .before .before .tabulate in
-    let few = c .before .before .before .before .before .before .before .before .before .before .before .before .before .placed in
-    let made = c .before .before .before .before .before .before .before .before .before .before .before .before .before .before .catalogue in
-    let start = c .before .before .before .before .before .before .before .before .before .before .before .before .before .before .before .before in
+    let asked = c .before .before .before .before .before .before .examine in
+    let tabled = c .before .before .before .before .before .before .before .before .before .before .before .before .tabulate in
+    let few = c .before .before .before .before .before .before .before .before .before .before .before .before .before .before .placed in
+    let made = c .before .before .before .before .before .before .before .before .before .before .before .before .before .before .before .catalogue in
+    let start = c .before .before .before .before .before .before .before .before .before .before .before .before .before .before .before .before .before in
     let a = start .args in
     let f = a .file .now in
     let table = tabled .last .1 .1 .1 .0 in
@@ -98,11 +98,11 @@ play-table-requires c κs =
 
 returns-2 : tie.Need-returns-2
 returns-2 c =
-    let asked = c .before .before .before .before .before .before .examine in
-    let tabled = c .before .before .before .before .before .before .before .before .before .before .before .before .tabulate in
-    let few = c .before .before .before .before .before .before .before .before .before .before .before .before .before .before .placed in
-    let made = c .before .before .before .before .before .before .before .before .before .before .before .before .before .before .before .catalogue in
-    let start = c .before .before .before .before .before .before .before .before .before .before .before .before .before .before .before .before .before in
+    let asked = c .before .before .before .before .before .before .before .examine in
+    let tabled = c .before .before .before .before .before .before .before .before .before .before .before .before .before .tabulate in
+    let few = c .before .before .before .before .before .before .before .before .before .before .before .before .before .before .before .placed in
+    let made = c .before .before .before .before .before .before .before .before .before .before .before .before .before .before .before .before .catalogue in
+    let start = c .before .before .before .before .before .before .before .before .before .before .before .before .before .before .before .before .before .before in
     let a = start .args in
     let f = a .file .now in
     let table = tabled .last .1 .1 .1 .0 in

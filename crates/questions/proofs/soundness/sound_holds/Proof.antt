@@ -1,12 +1,13 @@
 -- `questions::soundness::sound_holds` meets its contract: the first test that fails decides. Assumes nothing.
 use borrow.Author.Needs.{needs}
-use mathlib.Core.Path.{_≡_, sym, _∙_}
+use mathlib.Core.Path.{_≡_, refl, sym, _∙_}
 use mathlib.Core.Bool.{true≢false}
 use native.Mathlib.Omega.{arith}
 use borrow.Author.Tests.{le-leb, lt-leb}
 use lib.ListN.{take}
 use lib.Seq.{length-take-le}
 use Rattle.limits.specs.Bounds.{maxBookings}
+use Rattle.sheet.specs.SettleLaws.{settled-left}
 use Rattle.questions.specs.Numbers.{soundHolds}
 use Rattle.questions.proofs.soundness.sound_holds.Statement.{statement}
 use Rattle.questions.proofs.soundness.sound_holds.Tie as tie
@@ -24,7 +25,7 @@ returns c =
         held = λ rows l w z. absurd (true≢false (sym z ∙ c .unsound .ensures .1));
         events = λ z. absurd (true≢false (sym z ∙ c .unsound .ensures .0));
       },
-      start .pre .2,
+      (start .pre .2, (settled-left (c .unsound .result .blank) (a .day .rounds) (a .helds .now) (a .helds .now) (c .unsound .ensures .2) refl, λ z. c .unsound .ensures .2)),
     )
 
 unsound-requires-2 : tie.Need-unsound-requires-2
@@ -41,13 +42,13 @@ returns-2 c =
         held = λ rows l w z. absurd (true≢false (sym z ∙ c .unsound2 .ensures .1));
         events = λ z. absurd (true≢false (sym z ∙ c .unsound2 .ensures .0));
       },
-      start .pre .2,
+      (start .pre .2, (settled-left (c .unsound2 .result .blank) (a .day .rounds) (a .helds .now) (a .helds .now) (c .unsound2 .ensures .2) refl, λ z. c .unsound2 .ensures .2)),
     )
 
 sound-list-requires : tie.Need-sound-list-requires
 sound-list-requires c κs =
-    let start = c .before .before .before .before .before .before .before .before .before in
-    let few = c .before .before .before .if1 .left in
+    let start = c .before .before .before .before .before .before .before .before .before .before in
+    let few = c .before .before .before .before .if1 .left in
     (start .pre .0, few, start .pre .1, start .pre .2, start .pre .3 few)
 
 same-length : tie.Need-same-length
@@ -56,22 +57,25 @@ same-length c = search needs
 same-length-2 : tie.Need-same-length-2
 same-length-2 c = search needs
 
+same-length-3 : tie.Need-same-length-3
+same-length-3 c = search needs
+
 returns-3 : tie.Need-returns-3
 unfolding soundHolds
 returns-3 c =
-    let start = c .before .before .before .before .before .before .before .before .before .before .before .before .before .before in
+    let start = c .before .before .before .before .before .before .before .before .before .before .before .before .before .before .before .before .before in
     let a = start .args in
-    let few = c .before .before .before .before .before .before .before .before .if1 .left in
-    let told = c .before .before .before .before .sound-list .ensures .0 in (
+    let few = c .before .before .before .before .before .before .before .before .before .before .before .if1 .left in
+    let told = c .before .before .before .before .before .before .sound-list .ensures in (
       record {
         list =
             λ rows l w.
-            rw (le-leb (a .day .count) maxBookings few, le-leb (a .day .count) (a .places) (c .before .before .before .before .before .before .before .if2 .left))
-            (told .list (take (a .day .count) rows) (length-take-le (a .day .count) rows (omega (arith, few, l))) w);
-        held = λ rows l w z. told .held (take (a .day .count) rows) (length-take-le (a .day .count) rows (omega (arith, few, l))) w z;
-        events = told .events;
+            rw (le-leb (a .day .count) maxBookings few, le-leb (a .day .count) (a .places) (c .before .before .before .before .before .before .before .before .before .before .if2 .left))
+            (told .0 .list (take (a .day .count) rows) (length-take-le (a .day .count) rows (omega (arith, few, l))) w);
+        held = λ rows l w z. told .0 .held (take (a .day .count) rows) (length-take-le (a .day .count) rows (omega (arith, few, l))) w z;
+        events = told .0 .events;
       },
-      c .before .before .before .before .sound-list .ensures .1,
+      told .1,
     )
 
 pub sound-holds-spec : {M : Type 1} → statement M
@@ -85,4 +89,5 @@ sound-holds-spec =
     sound-list-requires
     same-length
     same-length-2
+    same-length-3
     returns-3)

@@ -7,6 +7,7 @@ use native.Mathlib.Omega.{arith}
 use borrow.Author.Tests.{not-true, not-false}
 use lib.ListN.{take, length}
 use Rattle.films.specs.Catalogue.{catalogueOf}
+use Rattle.sheet.specs.SettleLaws.{settled-left}
 use Rattle.table.specs.Streams.{streams, streams-length}
 use Rattle.questions.specs.Given.{settingAt}
 use Rattle.questions.specs.Listed.{basic-each, listed-playable, table-tied, table-sound}
@@ -29,7 +30,7 @@ returns c =
         held = λ bs e w z. absurd (true≢false (sym z ∙ c .unsound .ensures .1));
         events = λ z. absurd (true≢false (sym z ∙ c .unsound .ensures .0));
       },
-      start .pre .3,
+      (start .pre .3, (settled-left (c .unsound .result .blank) (a .day .rounds) (a .helds .now) (a .helds .now) (c .unsound .ensures .2) refl, λ z. c .unsound .ensures .2)),
     )
 
 all-basic-requires : tie.Need-all-basic-requires
@@ -48,7 +49,7 @@ returns-2 c =
         held = λ bs e w z. absurd (true≢false (sym z ∙ c .unsound2 .ensures .1));
         events = λ z. absurd (true≢false (sym z ∙ c .unsound2 .ensures .0));
       },
-      start .pre .3,
+      (start .pre .3, (settled-left (c .unsound2 .result .blank) (a .day .rounds) (a .helds .now) (a .helds .now) (c .unsound2 .ensures .2) refl, λ z. c .unsound2 .ensures .2)),
     )
 
 gather-requires : tie.Need-gather-requires
@@ -61,10 +62,10 @@ gather-requires c κs =
 
 streams-sound-requires : tie.Need-streams-sound-requires
 streams-sound-requires c κs =
-    let start = c .before .before .before .before .before .before .before .before .before .before .before .before .before .before .before .before .before .before in
+    let start = c .before .before .before .before .before .before .before .before .before .before .before .before .before .before .before .before .before .before .before in
     let a = start .args in
-    let gathered = c .before .before .before .before .before .before .gather .ensures in
-    let passed = sym (c .before .before .before .before .before .before .before .before .before .before .all-basic .ensures) ∙ not-false _ (c .before .before .before .before .before .before .before .before .before .if2 .left) in
+    let gathered = c .before .before .before .before .before .before .before .gather .ensures in
+    let passed = sym (c .before .before .before .before .before .before .before .before .before .before .before .all-basic .ensures) ∙ not-false _ (c .before .before .before .before .before .before .before .before .before .before .if2 .left) in
     let each = basic-each (a .day .rounds) (a .count) (streams (a .table .now)) (omega (arith, streams-length (a .table .now), start .pre .1)) (start .pre .2) passed in (
       start .pre .3 .words,
       start .pre .1,
@@ -81,30 +82,37 @@ same-length c = search needs
 same-length-2 : tie.Need-same-length-2
 same-length-2 c = search needs
 
+same-length-3 : tie.Need-same-length-3
+same-length-3 c = search needs
+
 returns-3 : tie.Need-returns-3
 returns-3 c =
-    let start = c .before .before .before .before .before .before .before .before .before .before .before .before .before .before .before .before .before .before .before in
+    let start = c .before .before .before .before .before .before .before .before .before .before .before .before .before .before .before .before .before .before .before .before .before .before in
     let a = start .args in
-    let gathered = c .before .before .before .before .before .before .before .gather .ensures in
-    let sound = c .streams-sound .ensures in
-    let passed = sym (c .before .before .before .before .before .before .before .before .before .before .before .all-basic .ensures) ∙ not-false _ (c .before .before .before .before .before .before .before .before .before .before .if2 .left) in (
+    let gathered = c .before .before .before .before .before .before .before .before .before .before .gather .ensures in
+    let tested = c .before .before .streams-sound in
+    let sound = tested .ensures .0 in
+    let passed = sym (c .before .before .before .before .before .before .before .before .before .before .before .before .before .before .all-basic .ensures) ∙ not-false _ (c .before .before .before .before .before .before .before .before .before .before .before .before .before .if2 .left) in (
       record {
         list =
             λ bs e w.
             sym
             (table-sound (a .file .now) (a .day) bs (a .table .now) (a .count) (start .pre .0) (start .pre .1) e w
-            ∙ rw (sym (c .before .before .before .before .before .before .before .before .before .before .before .before .before .names-differ .ensures (catalogueOf (a .file .now)) bs e w) ∙ not-false _ (c .before .before .before .before .before .before .before .before .before .before .before .before .if1 .left), passed) (sym (sound .0)));
+            ∙ rw (sym (c .before .before .before .before .before .before .before .before .before .before .before .before .before .before .before .before .names-differ .ensures (catalogueOf (a .file .now)) bs e w) ∙ not-false _ (c .before .before .before .before .before .before .before .before .before .before .before .before .before .before .before .if1 .left), passed) (sym (sound .0)));
         held =
             λ bs e w z.
             agrees-kept (settingAt (a .file .now) (a .day)) (a .file .now) bs (take (a .count) (streams (a .table .now)))
-            (table-tied (a .file .now) (a .day) bs (a .table .now) (a .count) (start .pre .0) (start .pre .1) e w) (a .helds .now) (sound .1 z);
+            (table-tied (a .file .now) (a .day) bs (a .table .now) (a .count) (start .pre .0) (start .pre .1) e w) (tested .last .1 .1 .1 .1 .1 .1 .1 .1 .0) (sound .1 z);
         events = λ z. gathered .0;
       },
-      record {
-        words = start .pre .3 .words;
-        opens = omega (arith, gathered .1, start .pre .3 .opens);
-        closes = omega (arith, gathered .2, start .pre .3 .closes);
-      },
+      (
+        record {
+          words = start .pre .3 .words;
+          opens = omega (arith, gathered .1, start .pre .3 .opens);
+          closes = omega (arith, gathered .2, start .pre .3 .closes);
+        },
+        tested .ensures .1,
+      ),
     )
 
 pub sound-list-spec : {M : Type 1} → statement M
@@ -121,4 +129,5 @@ sound-list-spec =
     streams-sound-requires
     same-length
     same-length-2
+    same-length-3
     returns-3)

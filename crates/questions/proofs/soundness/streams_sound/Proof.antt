@@ -1,12 +1,13 @@
 -- `questions::soundness::streams_sound` meets its contract: the first test that fails decides. Assumes nothing.
 use borrow.Author.Needs.{needs}
-use mathlib.Core.Path.{_≡_, sym, _∙_}
+use mathlib.Core.Path.{_≡_, refl, sym, _∙_}
 use mathlib.Core.Bool.{true≢false}
 use mathlib.Core.List.{map}
 use native.Mathlib.Omega.{arith}
 use borrow.Author.Tests.{not-true, not-false}
 use lib.ListN.{take}
 use lib.Seq.{length-take-le}
+use Rattle.sheet.specs.SettleLaws.{settled-left}
 use Rattle.segments.specs.Timeline.{events-timeline}
 use Rattle.table.specs.RowLaws.{diskRow}
 use Rattle.table.specs.Streams.{streams}
@@ -25,7 +26,10 @@ unsound-requires c κs = search needs
 returns : tie.Need-returns
 returns c =
     let no = sym (c .before .before .pairs-clear .ensures) ∙ not-true _ (c .before .if1 .taken) in
-    (c .unsound .ensures .0 ∙ sym (rw no), λ e. absurd (true≢false (sym e ∙ c .unsound .ensures .1)))
+    let a = c .before .before .before .before .before .before .before .before .args in (
+      (c .unsound .ensures .0 ∙ sym (rw no), λ e. absurd (true≢false (sym e ∙ c .unsound .ensures .1))),
+      (settled-left (c .unsound .result .blank) (a .rounds) (a .helds .now) (a .helds .now) (c .unsound .ensures .2) refl, λ z. c .unsound .ensures .2),
+    )
 
 slice-aggregate-disk-kept : tie.Need-slice-aggregate-disk-kept
 slice-aggregate-disk-kept c =
@@ -52,20 +56,26 @@ returns-2 c =
     let a = start .args in
     let disk = gathered-kept (streams (a .table .now)) (a .count) (a .opened .now) (a .closed .now) (start .pre .4) (a .disk) _ (c .before .before .disk-kept .ensures) in
     let yes = sym (c .before .before .before .before .before .before .pairs-clear .ensures) ∙ not-false _ (c .before .before .before .before .before .if1 .left) in
-    let no = sym disk ∙ not-true _ (c .before .if2 .taken) in
-    (c .unsound2 .ensures .0 ∙ sym (rw (yes, no)), λ e. absurd (true≢false (sym e ∙ c .unsound2 .ensures .1)))
+    let no = sym disk ∙ not-true _ (c .before .if2 .taken) in (
+      (c .unsound2 .ensures .0 ∙ sym (rw (yes, no)), λ e. absurd (true≢false (sym e ∙ c .unsound2 .ensures .1))),
+      (settled-left (c .unsound2 .result .blank) (a .rounds) (a .helds .now) (a .helds .now) (c .unsound2 .ensures .2) refl, λ z. c .unsound2 .ensures .2),
+    )
 
 held-within-requires : tie.Need-held-within-requires
 held-within-requires c κs = search needs
 
+same-length : tie.Need-same-length
+same-length c = search needs
+
 returns-3 : tie.Need-returns-3
 returns-3 c =
-    let start = c .before .before .before .before .before .before .before .before .before .before .before .before in
+    let start = c .before .before .before .before .before .before .before .before .before .before .before .before .before .before .before in
     let a = start .args in
-    let disk = gathered-kept (streams (a .table .now)) (a .count) (a .opened .now) (a .closed .now) (start .pre .4) (a .disk) _ (c .before .before .disk-kept .ensures) in
-    let yes = sym (c .before .before .before .before .before .before .pairs-clear .ensures) ∙ not-false _ (c .before .before .before .before .before .if1 .left) in
-    let kept = sym disk ∙ not-false _ (c .before .if2 .left) in
-    (rw (yes, kept) (c .held-within .ensures .0), c .held-within .ensures .1)
+    let disk = gathered-kept (streams (a .table .now)) (a .count) (a .opened .now) (a .closed .now) (start .pre .4) (a .disk) _ (c .before .before .before .before .before .disk-kept .ensures) in
+    let yes = sym (c .before .before .before .before .before .before .before .before .before .pairs-clear .ensures) ∙ not-false _ (c .before .before .before .before .before .before .before .before .if1 .left) in
+    let kept = sym disk ∙ not-false _ (c .before .before .before .before .if2 .left) in
+    let held = c .before .before .held-within in
+    ((rw (yes, kept) (held .ensures .0 .0), held .ensures .0 .1), held .ensures .1)
 
 pub streams-sound-spec : {M : Type 1} → statement M
 streams-sound-spec =
@@ -80,4 +90,5 @@ streams-sound-spec =
     unsound-requires-2
     returns-2
     held-within-requires
+    same-length
     returns-3)

@@ -1,10 +1,11 @@
 -- `questions::standing::examine` meets its contract: the first question that says no gives its number. Assumes nothing.
 use borrow.Author.Needs.{needs}
-use mathlib.Core.Path.{_≡_, sym, ap, _∙_}
-use mathlib.Core.Bool.{true≢false}
+use mathlib.Core.Path.{_≡_, refl, sym, ap, _∙_}
+use mathlib.Core.Bool.{false, true≢false}
 use native.Mathlib.Omega.{arith}
 use borrow.Author.Tests.{not-true, not-false, eq-eqb, ne-eqb}
 use Rattle.films.specs.Questions.{verdict}
+use Rattle.sheet.specs.SettleLaws.{settled-left}
 use Rattle.questions.specs.Numbers.{standingAsks, day-rounds-small}
 use Rattle.questions.proofs.standing.examine.Statement.{statement}
 use Rattle.questions.proofs.standing.examine.Tie as tie
@@ -20,7 +21,7 @@ returns c =
         held = λ rows l w z. absurd (true≢false (sym z));
         events = λ z. absurd (c .if1 .taken z);
       },
-      start .pre .1,
+      (start .pre .1, (settled-left false (a .day .rounds) (a .helds .now) (a .helds .now) refl refl, λ z. refl)),
     )
 
 day-holds-requires : tie.Need-day-holds-requires
@@ -37,7 +38,7 @@ returns-2 c =
         held = λ rows l w z. absurd (true≢false (sym z));
         events = λ z. absurd (omega arith);
       },
-      start .pre .1,
+      (start .pre .1, (settled-left false (a .day .rounds) (a .helds .now) (a .helds .now) refl refl, λ z. refl)),
     )
 
 limits-hold-requires : tie.Need-limits-hold-requires
@@ -54,7 +55,7 @@ returns-3 c =
         held = λ rows l w z. absurd (true≢false (sym z));
         events = λ z. absurd (omega arith);
       },
-      start .pre .1,
+      (start .pre .1, (settled-left false (a .day .rounds) (a .helds .now) (a .helds .now) refl refl, λ z. refl)),
     )
 
 sheet-holds-requires : tie.Need-sheet-holds-requires
@@ -71,15 +72,15 @@ returns-4 c =
         held = λ rows l w z. absurd (true≢false (sym z));
         events = λ z. absurd (omega arith);
       },
-      start .pre .1,
+      (start .pre .1, (settled-left false (a .day .rounds) (a .helds .now) (a .helds .now) refl refl, λ z. refl)),
     )
 
 sound-holds-requires : tie.Need-sound-holds-requires
 sound-holds-requires c κs =
-    let start = c .before .before .before .before .before .before .before .before .before .before .before .before .before .before in
+    let start = c .before .before .before .before .before .before .before .before .before .before .before .before .before .before .before in
     let a = start .args in
-    let accepted = c .before .before .before .before .before .before .before .before .if1 .left in
-    (sym (start .pre .0) ∙ accepted, day-rounds-small (a .day) (sym (c .before .before .before .before .before .before .before .day-holds .ensures) ∙ not-false _ (c .before .before .before .before .before .before .if2 .left)), start .pre .1, start .pre .2 accepted)
+    let accepted = c .before .before .before .before .before .before .before .before .before .if1 .left in
+    (sym (start .pre .0) ∙ accepted, day-rounds-small (a .day) (sym (c .before .before .before .before .before .before .before .before .day-holds .ensures) ∙ not-false _ (c .before .before .before .before .before .before .before .if2 .left)), start .pre .1, start .pre .2 accepted)
 
 same-length : tie.Need-same-length
 same-length c = search needs
@@ -87,38 +88,48 @@ same-length c = search needs
 same-length-2 : tie.Need-same-length-2
 same-length-2 c = search needs
 
+same-length-3 : tie.Need-same-length-3
+same-length-3 c = search needs
+
 returns-5 : tie.Need-returns-5
 unfolding standingAsks
 returns-5 c =
-    let start = c .before .before .before .before .before .before .before .before .before .before .before .before .before .before .before .before .before .before .before .before .before in
+    let start = c .before .before .before .before .before .before .before .before .before .before .before .before .before .before .before .before .before .before .before .before .before .before .before .before in
     let a = start .args in
-    let v = start .pre .0 in (
+    let v = start .pre .0 in
+    let told = c .before .before .before .before .before .before .before .before .sound-holds in
+    let unsound = not-true _ (c .if5 .taken) in (
       record {
-        number = λ rows l w. rw (eq-eqb (verdict (a .file .now)) 0 (sym v ∙ c .before .before .before .before .before .before .before .before .before .before .before .before .before .before .before .if1 .left), sym (c .before .before .before .before .before .before .before .before .before .before .before .before .before .before .day-holds .ensures) ∙ not-false _ (c .before .before .before .before .before .before .before .before .before .before .before .before .before .if2 .left), sym (c .before .before .before .before .before .before .before .before .before .before .before .before .limits-hold .ensures) ∙ not-false _ (c .before .before .before .before .before .before .before .before .before .before .before .if3 .left), sym (c .before .before .before .before .before .before .before .before .before .before .sheet-holds .ensures) ∙ not-false _ (c .before .before .before .before .before .before .before .before .before .if4 .left), sym (c .before .before .before .before .before .before .sound-holds .ensures .0 .list rows l w) ∙ not-true _ (c .if5 .taken));
+        number = λ rows l w. rw (eq-eqb (verdict (a .file .now)) 0 (sym v ∙ c .before .before .before .before .before .before .before .before .before .before .before .before .before .before .before .before .before .before .if1 .left), sym (c .before .before .before .before .before .before .before .before .before .before .before .before .before .before .before .before .before .day-holds .ensures) ∙ not-false _ (c .before .before .before .before .before .before .before .before .before .before .before .before .before .before .before .before .if2 .left), sym (c .before .before .before .before .before .before .before .before .before .before .before .before .before .before .before .limits-hold .ensures) ∙ not-false _ (c .before .before .before .before .before .before .before .before .before .before .before .before .before .before .if3 .left), sym (c .before .before .before .before .before .before .before .before .before .before .before .before .before .sheet-holds .ensures) ∙ not-false _ (c .before .before .before .before .before .before .before .before .before .before .before .before .if4 .left), sym (told .ensures .0 .list rows l w) ∙ unsound);
         held = λ rows l w z. absurd (true≢false (sym z));
         events = λ z. absurd (omega arith);
       },
-      c .before .before .before .before .before .before .sound-holds .ensures .1,
+      (told .ensures .1 .0, (settled-left false (a .day .rounds) (a .helds .now) (told .last .1 .1 .1 .1 .1 .1 .0) refl (told .ensures .1 .1 .0 .left (told .ensures .1 .1 .1 unsound)), λ z. refl)),
     )
-
-same-length-3 : tie.Need-same-length-3
-same-length-3 c = search needs
 
 same-length-4 : tie.Need-same-length-4
 same-length-4 c = search needs
 
+same-length-5 : tie.Need-same-length-5
+same-length-5 c = search needs
+
+same-length-6 : tie.Need-same-length-6
+same-length-6 c = search needs
+
 returns-6 : tie.Need-returns-6
 unfolding standingAsks
 returns-6 c =
-    let start = c .before .before .before .before .before .before .before .before .before .before .before .before .before .before .before .before .before .before .before .before .before in
+    let start = c .before .before .before .before .before .before .before .before .before .before .before .before .before .before .before .before .before .before .before .before .before .before .before .before in
     let a = start .args in
-    let v = start .pre .0 in (
+    let v = start .pre .0 in
+    let told = c .before .before .before .before .before .before .before .before .sound-holds in
+    let sound = not-false _ (c .if5 .left) in (
       record {
-        number = λ rows l w. rw (eq-eqb (verdict (a .file .now)) 0 (sym v ∙ c .before .before .before .before .before .before .before .before .before .before .before .before .before .before .before .if1 .left), sym (c .before .before .before .before .before .before .before .before .before .before .before .before .before .before .day-holds .ensures) ∙ not-false _ (c .before .before .before .before .before .before .before .before .before .before .before .before .before .if2 .left), sym (c .before .before .before .before .before .before .before .before .before .before .before .before .limits-hold .ensures) ∙ not-false _ (c .before .before .before .before .before .before .before .before .before .before .before .if3 .left), sym (c .before .before .before .before .before .before .before .before .before .before .sheet-holds .ensures) ∙ not-false _ (c .before .before .before .before .before .before .before .before .before .if4 .left), sym (c .before .before .before .before .before .before .sound-holds .ensures .0 .list rows l w) ∙ not-false _ (c .if5 .left));
-        held = c .before .before .before .before .before .before .sound-holds .ensures .0 .held;
-        events = λ z. c .before .before .before .before .before .before .sound-holds .ensures .0 .events (not-false _ (c .if5 .left));
+        number = λ rows l w. rw (eq-eqb (verdict (a .file .now)) 0 (sym v ∙ c .before .before .before .before .before .before .before .before .before .before .before .before .before .before .before .before .before .before .if1 .left), sym (c .before .before .before .before .before .before .before .before .before .before .before .before .before .before .before .before .before .day-holds .ensures) ∙ not-false _ (c .before .before .before .before .before .before .before .before .before .before .before .before .before .before .before .before .if2 .left), sym (c .before .before .before .before .before .before .before .before .before .before .before .before .before .before .before .limits-hold .ensures) ∙ not-false _ (c .before .before .before .before .before .before .before .before .before .before .before .before .before .before .if3 .left), sym (c .before .before .before .before .before .before .before .before .before .before .before .before .before .sheet-holds .ensures) ∙ not-false _ (c .before .before .before .before .before .before .before .before .before .before .before .before .if4 .left), sym (told .ensures .0 .list rows l w) ∙ sound);
+        held = told .ensures .0 .held;
+        events = λ z. told .ensures .0 .events sound;
       },
-      c .before .before .before .before .before .before .sound-holds .ensures .1,
+      (told .ensures .1 .0, (told .ensures .1 .1 .0, λ z. absurd (z refl))),
     )
 
 pub examine-spec : {M : Type 1} → statement M
@@ -135,7 +146,9 @@ examine-spec =
     sound-holds-requires
     same-length
     same-length-2
-    returns-5
     same-length-3
+    returns-5
     same-length-4
+    same-length-5
+    same-length-6
     returns-6)

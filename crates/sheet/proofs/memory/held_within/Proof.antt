@@ -1,235 +1,69 @@
--- `sheet::memory::held_within` meets its contract. The invariant: the rounds from e on keep the limit, the carries are those of the rounds
--- from e on, and as long as no difference was found the list has what is held in them. The measure is e. Assumes nothing.
-use mathlib.Core.Path.{_≡_, sym, _∙_, subst}
-use mathlib.Core.Bool.{true, true≢false}
-use Prim.Native.Nat.{ℕ, zero, _-_, _≤_}
-use native.Mathlib.Omega.{arith}
+-- `sheet::memory::held_within` meets its contract: a blank list that was written is zeroed again where the answer is no. Assumes nothing.
+use mathlib.Core.Path.{_≡_, refl, sym, _∙_}
+use mathlib.Core.Bool.{false, true≢false}
 use borrow.Author.Needs.{needs}
-use borrow.Author.Tests.{not-true, not-false, leb-true}
-use lib.ListN.{length, take, drop, replicate, length-replicate, length-append, length-take, length-drop}
-use Rattle.limits.specs.Bounds.{maxBookings}
-use Rattle.sheet.specs.Memory.{Agrees}
-use Rattle.sheet.specs.FillLaws.{Passed, passed-none, passed-skip, passed-no, passed-next, passed-all, zeros-at}
-use Rattle.sheet.specs.AgreeLaws.{agrees-none, agrees-more, agrees-skip}
-use Rattle.table.specs.Streams.{streams, streams-length}
+use Rattle.sheet.specs.SettleLaws.{settled-none, settled-left, settled-restored}
 use Rattle.sheet.proofs.memory.held_within.Statement.{statement}
 use Rattle.sheet.proofs.memory.held_within.Tie as tie
 
-abbrev Inv-loop : tie.InvT-loop
-Inv-loop file table count day-rounds memory helds starts ends carries₀ window₀ e₀ long same₀ carries window e same =
-    (length window ≡ 4096)
-    × Passed file (streams table) count day-rounds memory carries e
-    × (same ≡ true → Agrees file (take count (streams table)) helds e day-rounds)
-    × (e ≤ day-rounds)
+maybe-blank-requires : tie.Need-maybe-blank-requires
+maybe-blank-requires c κs =
+    let s = c .before .before .before .before in
+    (s .pre .0, s .pre .1, λ i h. s .pre .2 i h .bounded, s .pre .3)
 
-abbrev μ-loop : tie.MeasureT-loop
-μ-loop file table count day-rounds memory helds starts ends carries₀ window₀ e₀ long same₀ carries window e same = e
+empty-places-requires : tie.Need-empty-places-requires
+empty-places-requires c κs = c .before .maybe-blank .ensures
 
-slice-aggregate-spans : tie.Need-slice-aggregate-spans Inv-loop μ-loop
-slice-aggregate-spans c = search needs
-
-slice-aggregate-spans-2 : tie.Need-slice-aggregate-spans-2 Inv-loop μ-loop
-slice-aggregate-spans-2 c = search needs
-
-spans-requires : tie.Need-spans-requires Inv-loop μ-loop
-spans-requires c κs = (search needs, search needs, λ i h. c .before .before .before .before .before .pre .2 i h .bounded, search needs, search needs)
-
-slice-aggregate-open-until : tie.Need-slice-aggregate-open-until Inv-loop μ-loop
-slice-aggregate-open-until c = search needs
-
-slice-aggregate-open-until-2 : tie.Need-slice-aggregate-open-until-2 Inv-loop μ-loop
-slice-aggregate-open-until-2 c = search needs
-
-open-until-requires : tie.Need-open-until-requires Inv-loop μ-loop
-open-until-requires c κs = search needs
-
-empty-places-requires : tie.Need-empty-places-requires Inv-loop μ-loop
-empty-places-requires c κs = λ z. leb-true _ _ z
-
-loop-holds : tie.Need-loop-holds Inv-loop μ-loop
-loop-holds c =
-    let until = c .before in
-    let spread = until .before .before .before .before .before in
-    let s = spread .before .before .before .before .before .before in
+held-windows-requires : tie.Need-held-windows-requires
+held-windows-requires c κs =
+    let s = c .before .before .before .before .before .before .before .before in
     let a = s .args in
-    let spans = spread .spans in
-    let starts = spans .last .1 .1 .0 in
-    let ends = spans .last .1 .1 .1 .0 in
-    let none = passed-none (a .file .now) (streams (a .table .now)) (a .count) (a .day-rounds) (a .memory) (replicate maxBookings 0) (length-replicate maxBookings zero) (zeros-at maxBookings) (s .pre .3) in (
-      length-replicate 4096 zero,
-      passed-skip (a .file .now) (streams (a .table .now)) (a .count) (a .day-rounds) (a .memory) (replicate maxBookings 0) (a .day-rounds) none (until .open-until .result) starts ends (s .pre .2) (spans .ensures) (until .open-until .ensures .0),
-      λ z.
-          let empty = c .empty-places .ensures z in
-          agrees-skip (a .file .now) (streams (a .table .now)) (a .count) (a .day-rounds) (until .open-until .result) (a .day-rounds) starts ends (a .helds .now) (s .pre .2) (spans .ensures)
-          (until .open-until .ensures .0) (agrees-none (a .file .now) (take (a .count) (streams (a .table .now))) (a .helds .now) (a .day-rounds) (leb-true _ _ (empty .0))) (empty .1),
-      until .open-until .ensures .1,
-    )
-
-slice-aggregate-open-from : tie.Need-slice-aggregate-open-from Inv-loop μ-loop
-slice-aggregate-open-from c = search needs
-
-slice-aggregate-open-from-2 : tie.Need-slice-aggregate-open-from-2 Inv-loop μ-loop
-slice-aggregate-open-from-2 c = search needs
-
-smaller-requires : tie.Need-smaller-requires Inv-loop μ-loop
-smaller-requires c κs = search needs
-
-sub-open-from : tie.Need-sub-open-from Inv-loop μ-loop
-sub-open-from c = search needs
-
-sub-open-from-2 : tie.Need-sub-open-from-2 Inv-loop μ-loop
-sub-open-from-2 c = search needs
-
-open-from-requires : tie.Need-open-from-requires Inv-loop μ-loop
-open-from-requires c κs = search needs
-
-sub-n : tie.Need-sub-n Inv-loop μ-loop
-sub-n c = search needs
-
-array-borrow-prefix-window : tie.Need-array-borrow-prefix-window Inv-loop μ-loop
-array-borrow-prefix-window c = search needs
-
-slice-aggregate-window-kept : tie.Need-slice-aggregate-window-kept Inv-loop μ-loop
-slice-aggregate-window-kept c =
-    let l = c .before .before .before .before .before .before .loop in
-    let size = length-take (l .e - c .before .open-from .result) (l .window) in
-    omega arith
-
-slice-aggregate-window-kept-2 : tie.Need-slice-aggregate-window-kept-2 Inv-loop μ-loop
-slice-aggregate-window-kept-2 c = search needs
-
-window-kept-requires : tie.Need-window-kept-requires Inv-loop μ-loop
-window-kept-requires c κs =
-    let looped = c .before .before .before .before .before .before .before in
-    let spread = looped .before .before .before .before .before .before .before in
-    let s = spread .before .before .before .before .before .before in
-    let l = looped .loop in
-    let n = l .e - c .before .before .open-from .result in (
+    let may = c .before .before .before .maybe-blank in
+    let empty = c .before .empty-places in (
       s .pre .0,
-      omega (arith, length-take n (l .window)),
-      record {
-        few = s .pre .1;
-        streams = s .pre .2;
-        order = omega arith;
-        places = omega (arith, length-replicate n zero);
-        empty = zeros-at n;
-        size = omega (arith, l .inv .1 .size, s .pre .1);
-        carried = l .inv .1 .carried;
-      },
-      λ z. omega (arith, l .inv .2 z .long, l .inv .3),
+      s .pre .1,
+      s .pre .2,
+      s .pre .3,
+      settled-none (empty .result) (a .day-rounds) (a .helds .now) (λ z. let e = empty .ensures z in (may .ensures (e .0), e .1)),
     )
 
-returns : tie.Need-returns Inv-loop μ-loop
+same-length : tie.Need-same-length
+same-length c = search needs
+
+returns : tie.Need-returns
 returns c =
-    let windowed = c .before .before .before .before in
-    let from = windowed .before .before .before .open-from in
-    let looped = windowed .before .before .before .before .before .before .before .before in
-    let spread = looped .before .before .before .before .before .before .before in
-    let s = spread .before .before .before .before .before .before in
-    let a = s .args in
-    let l = looped .loop in
-    let kept = windowed .window-kept in (
-      sym (passed-no (a .file .now) (streams (a .table .now)) (a .count) (a .day-rounds) (a .memory) (l .carries) (l .e) (l .inv .1) (from .result) (kept .last .1 .1 .1 .1 .1 .1 .0) (kept .result .kept) (kept .ensures .0) (not-true _ (c .if1 .taken))),
-      λ e. absurd (true≢false (sym e)),
-    )
+    let held = c .before .before .before .held-windows in
+    (held .ensures .0, (held .ensures .1, λ z. absurd (true≢false (sym (c .if1 .taken) ∙ z))))
 
-slice-aggregate-open-until-3 : tie.Need-slice-aggregate-open-until-3 Inv-loop μ-loop
-slice-aggregate-open-until-3 c = search needs
+restore-requires : tie.Need-restore-requires
+restore-requires c κs = c .before .before .before .before .held-windows .ensures .1 .long
 
-slice-aggregate-open-until-4 : tie.Need-slice-aggregate-open-until-4 Inv-loop μ-loop
-slice-aggregate-open-until-4 c = search needs
+same-length-2 : tie.Need-same-length-2
+same-length-2 c = search needs
 
-open-until-requires-2 : tie.Need-open-until-requires-2 Inv-loop μ-loop
-open-until-requires-2 c κs =
-    let first = c .before .before .before .before .before .before .before .before .before .before .before .before .before .before .before .before in
-    (omega (arith, first), omega (arith, first))
-
-empty-places-requires-2 : tie.Need-empty-places-requires-2 Inv-loop μ-loop
-empty-places-requires-2 c κs =
-    let windowed = c .before .before .before .before .before .before .before in
-    let from = windowed .before .before .before .open-from in
-    let l = windowed .before .before .before .before .before .before .before .before .loop in
-    λ z. omega (arith, l .inv .2 (windowed .window-kept .ensures .1 z .0) .long, l .inv .3, from .ensures .2)
-
-loop-less : tie.Need-loop-less Inv-loop μ-loop
-loop-less c = search needs
-
-loop-again : tie.Need-loop-again Inv-loop μ-loop
-loop-again c =
-    let until = c .before in
-    let windowed = until .before .before .before .before .before .before .before in
-    let from = windowed .before .before .before .open-from in
-    let looped = windowed .before .before .before .before .before .before .before .before in
-    let spread = looped .before .before .before .before .before .before .before in
-    let s = spread .before .before .before .before .before .before in
-    let a = s .args in
-    let spans = spread .spans in
-    let starts = spans .last .1 .1 .0 in
-    let ends = spans .last .1 .1 .1 .0 in
-    let l = looped .loop in
-    let kept = windowed .window-kept in
-    let back = until .before .before .before .before .before in
-    let carries = kept .last .1 .1 .1 .1 .1 .1 .0 in
-    let next = passed-next (a .file .now) (streams (a .table .now)) (a .count) (a .day-rounds) (a .memory) (l .carries) (l .e) (l .inv .1) (from .result) carries (kept .result .kept) (kept .ensures .0) (omega (arith, back, l .inv .1 .size)) (not-false _ (until .before .before .before .if1 .left)) in
-    let n = l .e - from .result in
-    let size = length-append (kept .last .1 .1 .1 .0) (drop n (l .window)) in (
-      omega (arith, length-drop n (l .window), length-take n (l .window)),
-      passed-skip (a .file .now) (streams (a .table .now)) (a .count) (a .day-rounds) (a .memory) carries (from .result) next (until .open-until2 .result) starts ends (s .pre .2) (spans .ensures) (until .open-until2 .ensures .0),
-      λ z.
-          let empty = c .empty-places2 .ensures z in
-          let same = kept .ensures .1 (empty .0) in
-          agrees-skip (a .file .now) (streams (a .table .now)) (a .count) (from .result) (until .open-until2 .result) (a .day-rounds) starts ends (a .helds .now) (s .pre .2) (spans .ensures)
-          (until .open-until2 .ensures .0)
-          (agrees-more (a .file .now) (take (a .count) (streams (a .table .now))) (a .helds .now) (from .result) (l .e) (a .day-rounds) (l .inv .2 (same .0)) (same .1)) (empty .1),
-      omega (arith, until .open-until2 .ensures .1, from .ensures .2, l .inv .3),
-    )
-
-none-left-requires : tie.Need-none-left-requires Inv-loop μ-loop
-none-left-requires c κs = search needs
-
-returns-2 : tie.Need-returns-2 Inv-loop μ-loop
+returns-2 : tie.Need-returns-2
 returns-2 c =
-    let looped = c .before .before in
-    let spread = looped .before .before .before .before .before .before .before in
-    let s = spread .before .before .before .before .before .before in
-    let a = s .args in
-    let l = looped .loop in
-    let end : l .e ≡ 0 = omega arith in (
-      c .none-left .ensures ∙ passed-all (a .file .now) (streams (a .table .now)) (a .count) (a .day-rounds) (a .memory) (l .carries) (l .e) (l .inv .1) (s .pre .1) (omega (arith, streams-length (a .table .now), s .pre .1)) end,
-      λ z. subst (λ (k : ℕ). Agrees (a .file .now) (take (a .count) (streams (a .table .now))) (a .helds .now) k (a .day-rounds)) end (l .inv .2 z),
+    let a = c .before .before .before .before .before .before .before .before .before .before .before .before .before .before .before .before .args in
+    let held = c .before .before .before .before .before .before .before .held-windows in
+    let restored = c .before .before .restore in
+    let no : held .result .kept ≡ false = c .before .before .before .before .if1 .left in (
+      (sym no ∙ held .ensures .0 .0, λ z. absurd (true≢false (sym z))),
+      (
+        settled-left false (a .day-rounds) (a .helds .now) (restored .last .1 .1 .0) refl
+            (settled-restored (held .result .blank) (a .day-rounds) (a .helds .now) (held .last .1 .1 .1 .1 .1 .1 .0) (restored .last .1 .1 .0) (held .ensures .1) (restored .ensures)),
+        λ z. refl,
+      ),
     )
 
 pub held-within-spec : {M : Type 1} → statement M
 held-within-spec =
     tie.close
     (tie.spec
-    Inv-loop
-    μ-loop
-    slice-aggregate-spans
-    slice-aggregate-spans-2
-    spans-requires
-    slice-aggregate-open-until
-    slice-aggregate-open-until-2
-    open-until-requires
+    maybe-blank-requires
     empty-places-requires
-    loop-holds
-    slice-aggregate-open-from
-    slice-aggregate-open-from-2
-    smaller-requires
-    sub-open-from
-    sub-open-from-2
-    open-from-requires
-    sub-n
-    array-borrow-prefix-window
-    slice-aggregate-window-kept
-    slice-aggregate-window-kept-2
-    window-kept-requires
+    held-windows-requires
+    same-length
     returns
-    slice-aggregate-open-until-3
-    slice-aggregate-open-until-4
-    open-until-requires-2
-    empty-places-requires-2
-    loop-less
-    loop-again
-    none-left-requires
+    restore-requires
+    same-length-2
     returns-2)

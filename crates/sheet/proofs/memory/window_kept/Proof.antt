@@ -1,7 +1,9 @@
 -- `sheet::memory::window_kept` meets its contract. The window is empty once it is cleared, and its places are compared by round.
 -- Assumes nothing.
+use mathlib.Core.Path.{_≡_, subst}
 use native.Mathlib.Omega.{arith}
-use Prim.Native.Nat.{_-_}
+use Prim.Native.Nat.{ℕ, _+_, _-_}
+use Rattle.sheet.specs.Memory.{Rest}
 use Rattle.sheet.specs.FillLaws.{kept-window, cleared-all}
 use Rattle.sheet.specs.AgreeLaws.{window-agrees}
 use borrow.Author.Needs.{needs}
@@ -25,9 +27,9 @@ window-fill-requires c κs =
 window-within-requires : tie.Need-window-within-requires
 window-within-requires c κs = search needs
 
-same-places-requires : tie.Need-same-places-requires
-same-places-requires c κs =
-    let s = c .before .before .before .before .before .before .before .before .before .before .before .before .before .before .before .before .before .before .before in
+settle-places-requires : tie.Need-settle-places-requires
+settle-places-requires c κs =
+    let s = c .before .before .before .before .before .before .before .before .before .before .before .before .before .before .before .before .before .before .before .before in
     (λ z. omega (arith, s .pre .3 z, s .pre .2 .order), search needs)
 
 same-length : tie.Need-same-length
@@ -36,24 +38,33 @@ same-length c = search needs
 same-length-2 : tie.Need-same-length-2
 same-length-2 c = search needs
 
+same-length-3 : tie.Need-same-length-3
+same-length-3 c = search needs
+
 returns : tie.Need-returns
 returns c =
-    let within = c .before .before in
-    let filled = within .before .before .before .before .before .before in
-    let s = filled .before .before .before .before .before .before .before .before .before .before .before .before in
+    let settled = c .before .before .settle-places in
+    let within = c .before .before .before .before .before in
+    let filled = c .before .before .before .before .before .before .before .before .before .before .before in
+    let s = c .before .before .before .before .before .before .before .before .before .before .before .before .before .before .before .before .before .before .before .before .before .before .before in
     let a = s .args in
     let fill = filled .window-fill in
     let window = fill .last .1 .1 .1 .0 in
-    let carries = fill .last .1 .1 .1 .1 .1 .1 .0 in (
-      record {
-        kept =
-            rw (within .window-within .ensures)
-            (kept-window (a .file .now) (a .memory) (streams (a .table .now)) (a .count) window (a .w) (a .e) carries (omega (arith, s .pre .2 .order)) (omega arith) (fill .ensures));
-        carried = fill .ensures .carried;
-      },
-      λ z.
-          let same = c .same-places .ensures z in
-          (same .0, window-agrees (a .file .now) (streams (a .table .now)) (a .count) window (a .w) (a .e) carries (a .helds .now) (fill .ensures) (same .1)),
+    let carries = fill .last .1 .1 .1 .1 .1 .1 .0 in
+    let helds = settled .last .1 .1 .0 in
+    let end : a .w + (a .e - a .w) ≡ a .e = omega (arith, s .pre .2 .order) in (
+      (
+        record {
+          kept =
+              rw (within .window-within .ensures)
+              (kept-window (a .file .now) (a .memory) (streams (a .table .now)) (a .count) window (a .w) (a .e) carries (omega (arith, s .pre .2 .order)) (omega arith) (fill .ensures));
+          carried = fill .ensures .carried;
+        },
+        λ z.
+            let same = settled .ensures .0 z in
+            (same .0, window-agrees (a .file .now) (streams (a .table .now)) (a .count) window (a .w) (a .e) carries helds (fill .ensures) (same .1)),
+      ),
+      subst (λ (k : ℕ). Rest (a .blank) k (a .helds .now) helds) end (settled .ensures .1),
     )
 
 pub window-kept-spec : {M : Type 1} → statement M
@@ -64,7 +75,8 @@ window-kept-spec =
     clear-requires
     window-fill-requires
     window-within-requires
-    same-places-requires
+    settle-places-requires
     same-length
     same-length-2
+    same-length-3
     returns)
