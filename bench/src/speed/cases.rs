@@ -116,18 +116,31 @@ pub fn search_cases() -> Vec<Case> {
     ]
 }
 
-/// A full day's booking and drop that are lent a sheet of another day, here one of zeros.
+/// A full day's booking and drop that are lent a sheet that is not the day's: zeros, or another day's numbers, which are its own in
+/// the reverse order.
 pub fn sheet_cases() -> Vec<Case> {
-    let mut fixture = day(Size {
+    let fixture = day(Size {
         rounds: 86_400,
         bookings: 255,
         film: 4_096,
     });
-    fixture.sheet = Sheet::new(86_400);
-    let state = State::new(fixture);
+    let mut other = fixture.sheet.clone();
+    other.opens.reverse();
+    other.reserves.reverse();
+    other.helds.reverse();
+    let with = |sheet| {
+        State::new(Fixture {
+            sheet,
+            ..fixture.clone()
+        })
+    };
+    let zeros = with(Sheet::new(86_400));
+    let other = with(other);
     vec![
-        case("book, full day", Call::Book, state.clone()),
-        case("drop, full day", Call::Drop, state),
+        case("book, full day, zeros", Call::Book, zeros.clone()),
+        case("drop, full day, zeros", Call::Drop, zeros),
+        case("book, full day, other numbers", Call::Book, other.clone()),
+        case("drop, full day, other numbers", Call::Drop, other),
     ]
 }
 
