@@ -68,7 +68,7 @@ impl Case {
         case
     }
 
-    /// Lists of new lengths, with garbage wherever nothing stands.
+    /// Lists of new lengths, with garbage wherever nothing stands; a sheet's list may be all 0.
     pub fn set_lists(&mut self, random: &mut Random) {
         let count = self.day.count as usize;
         self.records.truncate(count);
@@ -88,8 +88,13 @@ impl Case {
             &mut self.sheet.reserves,
             &mut self.sheet.held,
         ] {
-            let longer = random.pick(&[0, 0, 1, 2, 1_000]);
-            *list = garbage_list(random, rounds + longer);
+            let places = rounds + random.pick(&[0, 0, 1, 2, 1_000]);
+            // zeros, as after a restart
+            *list = if random.once_in(4) {
+                vec![0; places]
+            } else {
+                garbage_list(random, places)
+            };
         }
         let lines = random.below(4) as usize;
         self.set_report(random, self.open_films() + lines);
