@@ -30,7 +30,7 @@ pub record Showing (p a m e : ℕ) : Type 0 where
   pub order : m ≤ e
   pub shown : m < e → p ≤ m
 
--- a reserve of j of them
+-- j reserves are one more than j - 1 of them
 pub reserve-less : (j b : ℕ) → 0 < j → j * b ≡ (j - 1) * b + b
 reserve-less zero b h = absurd (not-suc-le-zero h)
 reserve-less (suc j) b h = let e : suc j - 1 ≡ j = omega arith in rw e (omega (arith, suc-mul j b))
