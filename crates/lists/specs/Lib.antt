@@ -3,3 +3,4 @@ pub mod Rows
 pub mod Names
 pub mod Cabs
 pub mod Disk
+pub mod Joined

@@ -1,3 +1,4 @@
-// Tests of whole lists of numbers, a list of each kind: names that differ, and cabs that are clear.
+// Tests of whole lists of numbers: names that differ, cabs that are clear, numbers within a limit.
 pub mod cabs;
+pub mod joined;
 pub mod names;

@@ -1,20 +1,20 @@
 -- The just-in-time totals where they are written: what each round holds, and what was sent before it. Assumes nothing.
-use mathlib.Core.Path.{_≡_, refl, ap, _∙_}
+use mathlib.Core.Path.{_≡_, refl, sym, ap, _∙_}
 use mathlib.Core.List.{List, [], _∷_, _++_}
 use Prim.Native.Nat.{ℕ, zero, suc, _+_, _-_, _*_, _≤_, _<_}
 use native.Mathlib.Nat.{not-suc-le-zero, le-of-suc-le-suc}
 use native.Mathlib.Omega.{arith}
-use lib.ListN.{length, getD, take, drop, length-append, List·getD-append}
-use lib.Seq.{getD-take, length-take-le}
+use lib.ListN.{length, getD, take, drop, replicate, length-append, length-drop}
+use lib.Seq.{drop-at, drop-drop, getD-take, take-take, length-take-le}
 use Rattle.laws.specs.Sums.{sum}
-use Rattle.films.specs.Sizes.{Stored}
+use Rattle.films.specs.Sizes.{sizes, Stored}
 use Rattle.retrieval.specs.Schedule.{sends, totals}
 use Rattle.retrieval.specs.JustInTime.{due, justInTime}
 use Rattle.retrieval.specs.Carry.{carry, profile}
 use Rattle.retrieval.specs.CarryLaws.{due-carry}
-use Rattle.retrieval.specs.Sheet.{plus}
-use Rattle.retrieval.specs.SheetLaws.{onto-nil}
-use Rattle.retrieval.specs.Stored.{maxHeld}
+use Rattle.retrieval.specs.Sheet.{onto, plus}
+use Rattle.retrieval.specs.SheetLaws.{length-onto, onto-write}
+use Rattle.retrieval.specs.Stored.{maxHeld, sendsAt, length-sendsAt}
 
 -- what a film has sent before each of its rounds, C(t-1)
 abbrev pub sentBefore : List ℕ → List ℕ
@@ -30,18 +30,11 @@ pub record Holds (out s : List ℕ) (at n p : ℕ) : Type 0 where
   pub places : p + n ≤ length out
   pub small : (t : ℕ) → t < p + n → getD out t 0 ≤ maxHeld
 
--- a copy of them at the front of another list
-pub holds-copied : (held out s : List ℕ) (at n p : ℕ) → Holds held s at n p → p + n ≤ length out
-    → Holds (take (p + n) held ++ drop (p + n) out) s at n p
-holds-copied held out s at n p h l =
-    let m = length-take-le (p + n) held (h .places) in
-    record {
-      stored = h .stored;
-      places = omega (arith, length-append (take (p + n) held) (drop (p + n) out), m);
-      small = λ t i.
-          let e = List·getD-append (take (p + n) held) (drop (p + n) out) 0 t (omega (arith, m)) ∙ getD-take (p + n) held t 0 i in
-          omega (arith, h .small t i);
-    }
+-- the first of many zeros
+pub zeros-first : (m k : ℕ) → m ≤ k → _≡_ {A = List ℕ} (take m (replicate k 0)) (replicate m 0)
+zeros-first zero k h = refl
+zeros-first (suc m) zero h = absurd (not-suc-le-zero h)
+zeros-first (suc m) (suc k) h = ap (λ (l : List ℕ). 0 ∷ l) (zeros-first m k (le-of-suc-le-suc h))
 
 -- ---- sums
 
@@ -62,20 +55,76 @@ turn-sum (suc k) x a xs h l ea ex =
 -- ---- what was sent before, added to what is held
 
 -- A(t) is what is held in round t and C(t-1)
-pub totals-held : (b c : ℕ) (xs rest : List ℕ) → plus (profile b xs ++ rest) (take (length xs) (c ∷ totals c xs)) ≡ justInTime b c xs ++ rest
-totals-held b c [] rest = onto-nil (λ x h. x + h) rest
-totals-held b c (x ∷ xs) rest =
+pub totals-held : (b c : ℕ) (xs : List ℕ) → plus (profile b xs) (take (length xs) (c ∷ totals c xs)) ≡ justInTime b c xs
+totals-held b c [] = refl
+totals-held b c (x ∷ xs) =
     let e : x + carry b xs + c ≡ due b c x xs = omega (arith, due-carry b c x xs) in
-    rw (e, totals-held b (c + x) xs rest)
+    rw (e, totals-held b (c + x) xs)
+
+-- each place of two lists added
+pub plus-at : (l hs : List ℕ) (t : ℕ) → t < length l → t < length hs → getD (plus l hs) t 0 ≡ getD l t 0 + getD hs t 0
+plus-at [] hs t h k = absurd (not-suc-le-zero h)
+plus-at (x ∷ l) [] t h k = absurd (not-suc-le-zero k)
+plus-at (x ∷ l) (y ∷ hs) zero h k = refl
+plus-at (x ∷ l) (y ∷ hs) (suc t) h k = plus-at l hs t (le-of-suc-le-suc h) (le-of-suc-le-suc k)
 
 -- nothing is sent before the first round that shows
-pub none-sent : (p : ℕ) (xs s : List ℕ) → plus s (take p (0 ∷ totals 0 (sends p xs))) ≡ s
-none-sent zero xs s = onto-nil (λ x h. x + h) s
-none-sent (suc p) xs [] = refl
-none-sent (suc p) xs (x ∷ s) =
+pub none-sent : (p : ℕ) (xs l : List ℕ) (m : ℕ) → p ≤ m → take p (plus l (take m (0 ∷ totals 0 (sends p xs)))) ≡ take p l
+none-sent zero xs l m h = refl
+none-sent (suc p) xs [] m h = refl
+none-sent (suc p) xs (x ∷ l) zero h = absurd (not-suc-le-zero h)
+none-sent (suc p) xs (x ∷ l) (suc m) h =
     let e : x + 0 ≡ x = omega arith in
-    rw (e, none-sent p xs s)
+    rw (e, none-sent p xs l m (le-of-suc-le-suc h))
 
 pub none-before : (p : ℕ) (xs : List ℕ) → getD (0 ∷ totals 0 (sends p xs)) p 0 ≡ 0
 none-before zero xs = refl
 none-before (suc p) xs = none-before p xs
+
+-- ---- the totals, from what each round holds
+
+-- of each of a film's rounds, what `held` has and what was sent before it
+abbrev pub totalsOf : List ℕ → List ℕ → ℕ → ℕ → ℕ → List ℕ
+totalsOf held s at n p = plus (take (p + n) held) (sentBefore (sendsAt s at n p))
+
+module _ (held s : List ℕ) (at n p : ℕ) where
+  long : length (sendsAt s at n p) ≡ p + n
+  long = length-sendsAt s at n p
+
+  pub length-totalsOf : Holds held s at n p → length (totalsOf held s at n p) ≡ p + n
+  length-totalsOf h =
+      length-onto (λ x y. x + y) (take (p + n) held) (sentBefore (sendsAt s at n p)) ∙ length-take-le (p + n) held (h .places)
+
+  length-before : length (sentBefore (sendsAt s at n p)) ≡ p + n
+  length-before =
+      let t = length-totals 0 (sendsAt s at n p) in
+      length-take-le (length (sendsAt s at n p)) (0 ∷ totals 0 (sendsAt s at n p)) (omega arith) ∙ long
+
+  pub totalsOf-at : (t : ℕ) → Holds held s at n p → t < p + n
+      → getD (totalsOf held s at n p) t 0 ≡ getD held t 0 + getD (0 ∷ totals 0 (sendsAt s at n p)) t 0
+  totalsOf-at t h u =
+      let l = length-take-le (p + n) held (h .places) in
+      let e = getD-take (p + n) held t 0 u in
+      let d = getD-take (length (sendsAt s at n p)) (0 ∷ totals 0 (sendsAt s at n p)) t 0 (omega (arith, long)) in
+      let b = plus-at (take (p + n) held) (sentBefore (sendsAt s at n p)) t (omega arith) (omega (arith, length-before)) in
+      omega arith
+
+  -- the rounds before the first that shows are copied
+  module _ (out copied : List ℕ) (h : Holds held s at n p) (l : p + n ≤ length out) (e : copied ≡ take p held ++ drop p out) where
+    size : length (take p held) ≡ p
+    size = length-take-le p held (omega (arith, h .places))
+
+    pub copied-length : length copied ≡ length out
+    copied-length = omega (arith, ap length e, length-append (take p held) (drop p out), size, length-drop p out)
+
+    pub copied-first : copied ≡ onto (λ x r. r) copied (take p (totalsOf held s at n p))
+    copied-first =
+        let first : take p (totalsOf held s at n p) ≡ take p held =
+        none-sent p (sizes s at n) (take (p + n) held) (length (sendsAt s at n p)) (omega (arith, long)) ∙ take-take p (p + n) held (omega arith) in
+        let rest : drop p copied ≡ drop p out = ap (drop p) e ∙ drop-at (take p held) (drop p out) p size in
+        sym (ap (onto (λ x r. r) copied) first ∙ onto-write copied (take p held) (omega (arith, size, copied-length)) ∙ rw (size, rest, e))
+
+    pub copied-rest : drop (p + n) copied ≡ drop (p + n) out
+    copied-rest =
+        let rest : drop p copied ≡ drop p out = ap (drop p) e ∙ drop-at (take p held) (drop p out) p size in
+        sym (drop-drop n p copied) ∙ ap (drop n) rest ∙ drop-drop n p out

@@ -20,7 +20,7 @@ use limits::refusals::NO_ROOM;
 use limits::refusals::NO_SCHEDULE;
 use limits::refusals::PREFETCH;
 use limits::refusals::RESERVE;
-use retrieval::write_profile;
+use retrieval::write_blank;
 
 // The answer of a call for a schedule: a refusal's number, or how many totals are written.
 pub enum Scheduled {
@@ -30,21 +30,6 @@ pub enum Scheduled {
 
 // rounds that a film is open, at most
 const MAX_LENGTH: usize = MAX_PREFETCH as usize + MAX_ROUNDS;
-
-// Adds to each of a film's rounds in a list what the film has sent before it. The rounds before the first that shows have nothing
-// before them.
-fn add_sent(out: &mut [u64], file: &[u8], at: usize, n: usize, p: usize)
-    requires { ⌜ Holds (now out) (now file) at n p ⌝ }
-    ensures { λ _. ⌜ now (out .exit) ≡ plus (now (out .entry)) (sentBefore (sendsAt (now (file .entry)) at n p)) ⌝ }
-{
-    let mut sent: u64 = 0;
-    let mut i = 0;
-    while i < n {
-        out[p + i] = out[p + i] + sent;
-        sent += size_at(file, at + 4 * i);
-        i += 1;
-    }
-}
 
 // Copies the first n numbers of one list to the first places of another.
 fn copy_first(out: &mut [u64], list: &[u64], n: usize)
@@ -59,13 +44,19 @@ fn copy_first(out: &mut [u64], list: &[u64], n: usize)
 }
 
 // Writes the just-in-time totals of a film to the first p + n places of the list: of each round, what it holds, which stands in
-// `held`, and what was sent before it.
+// `held`, and what was sent before it. The rounds before the first that shows have nothing before them.
 fn write_totals(out: &mut [u64], held: &[u64], file: &[u8], at: usize, n: usize, p: usize)
     requires { ⌜ Holds (now held) (now file) at n p × (p + n ≤ length (now out)) ⌝ }
-    ensures { λ _. ⌜ now (out .exit) ≡ plus (take (p + n) (now (held .entry)) ++ drop (p + n) (now (out .entry))) (sentBefore (sendsAt (now (file .entry)) at n p)) ⌝ }
+    ensures { λ _. ⌜ now (out .exit) ≡ plus (take (p + n) (now (held .entry))) (sentBefore (sendsAt (now (file .entry)) at n p)) ++ drop (p + n) (now (out .entry)) ⌝ }
 {
-    copy_first(out, held, p + n);
-    add_sent(out, file, at, n, p);
+    copy_first(out, held, p);
+    let mut sent: u64 = 0;
+    let mut i = 0;
+    while i < n {
+        out[p + i] = held[p + i] + sent;
+        sent += size_at(file, at + 4 * i);
+        i += 1;
+    }
 }
 
 // The answer for a film whose n sizes stand at an offset of the file. Nothing is written before the last question is put.
@@ -84,7 +75,7 @@ fn plan(file: &[u8], at: usize, n: usize, p: u64, b: u64, out: &mut [u64]) -> Sc
         return Scheduled::Refused(NO_ROOM);
     }
     let mut held = [0u64; MAX_LENGTH];
-    if !write_profile(&mut held, file, at, n, ahead, b) {
+    if !write_blank(&mut held, file, at, n, ahead, b) {
         return Scheduled::Refused(NO_SCHEDULE);
     }
     write_totals(out, &held, file, at, n, ahead);

@@ -53,26 +53,29 @@ plus-zeros (suc m) (h ∷ hs) l =
     let z : 0 + h ≡ h = omega arith in
     rw (z, plus-zeros m hs (omega arith))
 
-module _ (s : List ℕ) (at n p b : ℕ) (part zeroed : List ℕ) (cleared : zeroed ≡ replicate (p + n) 0 ++ drop (p + n) part) where
-  zeros : take (p + n) zeroed ≡ replicate (p + n) 0
-  zeros = rw cleared (take-at (replicate (p + n) 0) (drop (p + n) part) (p + n) (length-replicate (p + n) zero))
+-- the places that are zeroed, and those after them
+pub cleared-front : (m : ℕ) (part zeroed : List ℕ) → zeroed ≡ replicate m 0 ++ drop m part
+    → (take m zeroed ≡ replicate m 0) × (drop m zeroed ≡ drop m part)
+cleared-front m part zeroed e =
+    let size = length-replicate m zero in
+    (rw e (take-at (replicate m 0) (drop m part) m size), rw e (drop-at (replicate m 0) (drop m part) m size))
 
-  pub zeros-length : length (take (p + n) zeroed) ≡ p + n
+module _ (s : List ℕ) (at n p b : ℕ) (part : List ℕ) (zeros : take (p + n) part ≡ replicate (p + n) 0) where
+  pub zeros-length : length (take (p + n) part) ≡ p + n
   zeros-length = ap length zeros ∙ length-replicate (p + n) zero
 
-  pub zeros-take : InRange s at n p b → Adds (take (p + n) zeroed) s at n p b 0 (p + n) 0
+  pub zeros-take : InRange s at n p b → Adds (take (p + n) part) s at n p b 0 (p + n) 0
   zeros-take r =
       rw zeros
       (adds-whole (replicate (p + n) 0) s at n p b r (omega (arith, length-replicate (p + n) zero))
       (room-more 0 (replicate (p + n) 0) s at n p b 0 (p + n) (omega arith) (omega (arith, largest-zeros (p + n))) (r .stored)))
 
-  pub zeros-written : (after : List ℕ) → after ≡ plus (take (p + n) zeroed) (heldIn s at n p b 0 (p + n))
-      → after ++ drop (p + n) zeroed ≡ profile b (sendsAt s at n p) ++ drop (p + n) part
+  pub zeros-written : (after : List ℕ) → after ≡ plus (take (p + n) part) (heldIn s at n p b 0 (p + n))
+      → after ++ drop (p + n) part ≡ profile b (sendsAt s at n p) ++ drop (p + n) part
   zeros-written after e =
       let hs = profile b (sendsAt s at n p) in
       let long : length hs ≡ p + n = length-profile b (sendsAt s at n p) ∙ length-sendsAt s at n p in
-      let rest : drop (p + n) zeroed ≡ drop (p + n) part = rw cleared (drop-at (replicate (p + n) 0) (drop (p + n) part) (p + n) (length-replicate (p + n) zero)) in
-      rw (e, zeros, heldIn-whole s at n p b, plus-zeros (p + n) hs long, rest)
+      rw (e, zeros, heldIn-whole s at n p b, plus-zeros (p + n) hs long)
 
 -- ---- a loop that lays from the first place forward
 

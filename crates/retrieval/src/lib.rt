@@ -7,7 +7,7 @@ pub mod shown;
 ghost use mathlib.Core.Path.{_≡_};
 ghost use mathlib.Core.List.{_++_};
 ghost use Prim.Native.Nat.{_+_, _-_, _*_, _^_, _≤_, _<_, min, max};
-ghost use lib.ListN.{length, getD, take, drop};
+ghost use lib.ListN.{length, getD, take, drop, replicate};
 ghost use Rattle.limits.specs.Bounds.{maxSize};
 ghost use Rattle.films.specs.Sizes.{sizes, Stored};
 ghost use Rattle.retrieval.specs.Schedule.{peak};
@@ -165,15 +165,23 @@ pub fn add_held(
     add_waiting(part, m - a, b, left)
 }
 
+// Writes what the film holds in each of its p + n rounds to the first places of a lent list, which are 0. Does a schedule exist?
+pub fn write_blank(part: &mut [u64], file: &[u8], at: usize, n: usize, p: usize, b: u64) -> bool
+    requires { ⌜ (InRange (now file) at n p b) × (p + n ≤ length (now part)) × (take (p + n) (now part) ≡ replicate (p + n) 0) ⌝ }
+    ensures { λ r. ⌜ (now (part .exit) ≡ profile b (sendsAt (now (file .entry)) at n p) ++ drop (p + n) (now (part .entry))) × (r ≡ existsBy b (sendsAt (now (file .entry)) at n p)) ⌝ }
+{
+    let rounds = p + n;
+    add_held(&mut part[..rounds], file, at, n, p, b, 0, rounds, 0) == 0
+}
+
 // Writes what the film holds in each of its p + n rounds to the first places of a lent list, whatever stood there. Does a
 // schedule exist?
 pub fn write_profile(part: &mut [u64], file: &[u8], at: usize, n: usize, p: usize, b: u64) -> bool
     requires { ⌜ (InRange (now file) at n p b) × (p + n ≤ length (now part)) ⌝ }
     ensures { λ r. ⌜ (now (part .exit) ≡ profile b (sendsAt (now (file .entry)) at n p) ++ drop (p + n) (now (part .entry))) × (r ≡ existsBy b (sendsAt (now (file .entry)) at n p)) ⌝ }
 {
-    let rounds = p + n;
-    clear(part, rounds);
-    add_held(&mut part[..rounds], file, at, n, p, b, 0, rounds, 0) == 0
+    clear(part, p + n);
+    write_blank(part, file, at, n, p, b)
 }
 
 // Adds the first n numbers of a profile to the first n places of a lent list.

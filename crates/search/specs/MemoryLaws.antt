@@ -1,18 +1,18 @@
 -- Many rounds of memory's test together: what their sums joined by `|` tell of each, and parts of the day and of the stream.
 -- Assumes nothing.
 use mathlib.Core.Path.{_≡_, sym, ap, ap₂, _∙_}
-use mathlib.Core.Bool.{Bool, true, _&&_}
+use mathlib.Core.Bool.{Bool, true}
 use mathlib.Core.List.{List}
 use Prim.Native.Nat.{ℕ, _+_, _-_, _^_, _≤_, _<_, min}
 use native.Mathlib.Decide.{decLe}
 use native.Mathlib.Omega.{arith}
-use native.Mathlib.Numerals.{add-one}
 use lib.ListN.{length, getD, take, drop, length-drop}
 use lib.Seq.{getD-take, getD-drop, length-take-le}
 use lib.Dec.{leb}
-use lib.Bits.{bitOr, or-add-and, and-le-l, and-le-r, or-lt}
-use borrow.Author.Tests.{le-leb, lt-leb}
-use Rattle.laws.specs.Tests.{below, below-at}
+use lib.Bits.{bitOr}
+use borrow.Author.Tests.{le-leb, leb-true}
+use Rattle.laws.specs.Tests.{below, below-at, below-all}
+use Rattle.lists.specs.Joined.{join-within}
 use Rattle.search.specs.Fit.{memoryFits, HeldRows}
 use Rattle.search.specs.Search.{SomeFails, SomeFailsIn}
 
@@ -27,40 +27,6 @@ pub record Parts (helds profile : List ℕ) : Type 0 where
 
 -- ---- sums joined
 
--- the largest number below 2^63
-abbrev most : ℕ
-most = 2 ^ 63 - 1
-
--- a join is below 2^63 exactly if both are
-or-most : (a b : ℕ) → leb (bitOr a b) most ≡ leb b most && leb a most
-or-most a b = go (decLe a most) (decLe b most)
-  where
-    go : Dec (a ≤ most) → Dec (b ≤ most) → leb (bitOr a b) most ≡ leb b most && leb a most
-    go (yes p) (yes q) =
-        let l : bitOr a b ≤ most = omega (arith, or-lt 63 a b (omega arith) (omega arith)) in
-        rw (le-leb _ _ l, le-leb _ _ p, le-leb _ _ q)
-    go p (no q) =
-        let m : most < b = omega arith in
-        let l : most < bitOr a b = omega (arith, or-add-and a b, and-le-l a b) in
-        rw (lt-leb _ _ l, lt-leb _ _ m)
-    go (no p) (yes q) =
-        let m : most < a = omega arith in
-        let l : most < bitOr a b = omega (arith, or-add-and a b, and-le-r a b) in
-        rw (lt-leb _ _ l, lt-leb _ _ m, le-leb _ _ q)
-
--- with `most - memory` added, a sum is below 2^63 exactly if it is within memory
-within-most : (x memory : ℕ) → x ≤ most → leb (x + (most - memory)) most ≡ leb x memory
-within-most x memory h = go (decLe x memory)
-  where
-    go : Dec (x ≤ memory) → leb (x + (most - memory)) most ≡ leb x memory
-    go (yes p) =
-        let l : x + (most - memory) ≤ most = omega arith in
-        rw (le-leb _ _ l, le-leb _ _ p)
-    go (no p) =
-        let m : memory < x = omega arith in
-        let l : most < x + (most - memory) = omega arith in
-        rw (lt-leb _ _ l, lt-leb _ _ m)
-
 module _ (helds : List ℕ) (memory : ℕ) (profile : List ℕ) (parts : Parts helds profile) where
   -- what two places hold together
   pub sum-most : (i : ℕ) → i < length helds → getD helds i 0 + getD profile i 0 ≤ 2 ^ 63 - 1
@@ -70,10 +36,7 @@ module _ (helds : List ℕ) (memory : ℕ) (profile : List ℕ) (parts : Parts h
   pub join-next : (joined i : ℕ) → i < length helds → leb joined (2 ^ 63 - 1) ≡ below i (bothFit helds memory profile)
       → leb (bitOr joined (getD helds i 0 + getD profile i 0 + ((2 ^ 63 - 1) - memory))) (2 ^ 63 - 1)
       ≡ below (i + 1) (bothFit helds memory profile)
-  join-next joined i h e =
-      rw (add-one i)
-      (or-most joined (getD helds i 0 + getD profile i 0 + (most - memory))
-      ∙ ap₂ (λ (p q : Bool). p && q) (within-most (getD helds i 0 + getD profile i 0) memory (sum-most i h)) e)
+  join-next joined i h e = join-within (λ k. getD helds k 0 + getD profile k 0) memory joined i (sum-most i h) e
 
 -- ---- parts of the day and of the stream
 
@@ -160,3 +123,25 @@ pub block-less : (a e n from to : ℕ) → from ≡ a - 64 → to ≡ min (e + 6
 block-less a e n from to p q h k l =
     let wider : e - a < to - from = omega arith in
     less-left n (e - a) (to - from) wider l
+
+-- ---- a stream that memory cannot take alone
+
+module _ (helds : List ℕ) (memory : ℕ) (profile : List ℕ) (n : ℕ) (own : HeldRows profile n) where
+  pub front-length : length (take n profile) ≡ n
+  front-length = length-take-le n profile (own .long)
+
+  pub front-small : (i : ℕ) → i < length (take n profile) → getD (take n profile) i 0 < 2 ^ 63
+  front-small i h =
+      let u : i < n = omega (arith, front-length) in
+      omega (arith, getD-take n profile i 0 u, own .small i u)
+
+  -- if it takes every round beside the day's, it takes every round alone
+  pub taken-alone : (s : ℕ) → ((j : ℕ) → j < n → memoryFits helds memory profile s j ≡ true)
+      → below (length (take n profile)) (λ i. leb (getD (take n profile) i 0) memory) ≡ true
+  unfolding memoryFits
+  taken-alone s g =
+      below-all (length (take n profile)) (λ i. leb (getD (take n profile) i 0) memory)
+      (λ i h.
+      let u : i < n = omega (arith, front-length) in
+      let l = leb-true (getD helds (s + i) 0 + getD profile i 0) memory (g i u) in
+      le-leb (getD (take n profile) i 0) memory (omega (arith, getD-take n profile i 0 u)))

@@ -4,6 +4,7 @@ use crate::blocks;
 use crate::cabs;
 use crate::disk;
 use crate::memory;
+use lists::joined::all_within;
 use load::stream::Stream;
 ghost use mathlib.Core.Path.{_≡_};
 ghost use Prim.Native.Nat.{_+_, _≤_, max};
@@ -141,8 +142,8 @@ pub fn try_start(
     Step::Fits
 }
 
-// The first start from first to last at which the stream y fits.
-pub fn first_fit(
+// The first start from first to last at which the stream y fits, by trying them upward.
+fn try_starts(
     y: Stream,
     profile: &[u64],
     shows: &[u64],
@@ -213,4 +214,42 @@ pub fn first_fit(
         }
     }
     Found::Nowhere
+}
+
+// The first start from first to last at which the stream y fits. One that holds more than memory has in a round fits nowhere.
+pub fn first_fit(
+    y: Stream,
+    profile: &[u64],
+    shows: &[u64],
+    ends: &[u64],
+    losses: &[u64],
+    opens: &[u64],
+    reserves: &[u64],
+    helds: &[u64],
+    disk: u64,
+    memory: u64,
+    first: usize,
+    last: usize,
+) -> Found
+    requires { ⌜ Walks y (now profile) (now shows) (now ends) (now losses) (now opens) (now reserves) (now helds) last ⌝ }
+    ensures { λ r. ⌜ r ≡ answerOf (firstOf (fits (testsOf y (now (profile .entry)) (now (shows .entry)) (now (ends .entry)) (now (opens .entry)) (now (reserves .entry)) (now (helds .entry)) disk memory)) first last) ⌝ }
+{
+    let n = y.prefetch + y.rounds;
+    if !all_within(&profile[..n], memory) {
+        return Found::Nowhere;
+    }
+    try_starts(
+        y,
+        profile,
+        shows,
+        ends,
+        losses,
+        opens,
+        reserves,
+        helds,
+        disk,
+        memory,
+        first,
+        last,
+    )
 }

@@ -10,11 +10,6 @@ use Rattle.load.specs.Basic.{Playable, EachOf}
 use Rattle.load.specs.declared.stream.Stream.{Stream}
 use Rattle.sheet.specs.Memory.{Spans, openUntil, Filled, Agrees}
 use Rattle.sheet.specs.OpenLaws.{skip-held}
-use lib.Bits.{bitOr, or-add-and, and-le-l, and-le-r}
-
--- a join is 0 only if both are
-pub or-none : (a b : ℕ) → bitOr a b ≡ 0 → (a ≡ 0) × (b ≡ 0)
-or-none a b e = omega (arith, or-add-and a b, and-le-l a b, and-le-r a b)
 
 -- no round is compared yet
 pub agrees-none : (f : List ℕ) (xs : List Stream) (list : List ℕ) (T : ℕ) → T ≤ length list → Agrees f xs list T T

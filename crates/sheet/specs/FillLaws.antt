@@ -2,7 +2,7 @@
 use mathlib.Core.Path.{_≡_, refl, sym, ap, ap₂, _∙_}
 use mathlib.Core.Bool.{Bool, true, false, _&&_}
 use mathlib.Core.List.{List, [], _∷_, _++_, append-nil}
-use Prim.Native.Nat.{ℕ, zero, suc, _+_, _-_, _*_, _≤_, _<_}
+use Prim.Native.Nat.{ℕ, zero, suc, _+_, _-_, _*_, _^_, _≤_, _<_}
 use native.Mathlib.Nat.{not-suc-le-zero}
 use native.Mathlib.Numerals.{add-one}
 use native.Mathlib.Omega.{arith}
@@ -16,7 +16,7 @@ use Rattle.laws.specs.Tests.{all, below}
 use Rattle.laws.specs.Sums.{largest}
 use Rattle.retrieval.specs.Carry.{carry}
 use Rattle.retrieval.specs.JustInTime.{due, existsBy}
-use Rattle.retrieval.specs.CarryLaws.{due-carry}
+use Rattle.retrieval.specs.CarryLaws.{due-carry, getD-largest}
 use Rattle.retrieval.specs.Stored.{maxHeld, largest-bound}
 use Rattle.load.specs.Stream.{noStream, sendsOf, total, holdsIn, heldIn, carryFrom}
 use Rattle.load.specs.Basic.{Playable, Within, EachOf}
@@ -113,44 +113,43 @@ module _ (f : List ℕ) (xs : List Stream) (n : ℕ) (window₀ left₀ : List �
   filling-all window left i z g =
       record {
         held = λ t u v. g .held t u v ∙ ap (λ (k : ℕ). heldIn f t (take k xs)) z;
+        most = omega (arith, g .most, ap (λ (k : ℕ). maxHeld * k) z);
         carried = λ k u. g .done k (omega arith);
       }
 
 -- ---- windows of a day, from the last to the first
 
--- the n rounds from w on, tested by their places in a list, and the rounds before them
-below-window : (F g : ℕ → Bool) (l : List ℕ) (w n : ℕ) → n ≤ length l → ((k : ℕ) → k < n → g (getD l k 0) ≡ F (w + k))
-    → below (w + n) F ≡ all g (take n l) && below w F
-below-window F g l w zero h e = let z : w + 0 ≡ w = omega arith in ap (λ (k : ℕ). below k F) z
-below-window F g l w (suc n) h e =
+-- the n rounds from w on, and the rounds before them
+below-window : (F g : ℕ → Bool) (w n : ℕ) → ((k : ℕ) → k < n → g k ≡ F (w + k)) → below (w + n) F ≡ below n g && below w F
+below-window F g w zero e = let z : w + 0 ≡ w = omega arith in ap (λ (k : ℕ). below k F) z
+below-window F g w (suc n) e =
     let z : w + suc n ≡ suc (w + n) = omega arith in
-    let i = below-window F g l w n (omega arith) (λ k u. e k (omega arith)) in
-    ap (λ (k : ℕ). below k F) z
-    ∙ ap₂ (λ (u v : Bool). u && v) (sym (e n (omega arith))) i
-    ∙ turn (g (getD l n 0)) (all g (take n l))
-    ∙ ap (λ (v : Bool). v && below w F)
-    (sym (ap (all g) (take-suc l n 0 (omega arith)) ∙ all-append g (take n l) (getD l n 0 ∷ [])))
+    let i = below-window F g w n (λ k u. e k (omega arith)) in
+    ap (λ (k : ℕ). below k F) z ∙ ap₂ (λ (u v : Bool). u && v) (sym (e n (omega arith))) i ∙ turn (g n)
   where
-    turn : (a b : Bool) → a && (b && below w F) ≡ (b && (a && true)) && below w F
-    turn true true = refl
-    turn true false = refl
-    turn false true = refl
-    turn false false = refl
+    turn : (a : Bool) → a && (below n g && below w F) ≡ (a && below n g) && below w F
+    turn true = refl
+    turn false = refl
 
 -- a filled window
 pub kept-window : (f : List ℕ) (M : ℕ) (xs : List Stream) (n : ℕ) (window : List ℕ) (w e : ℕ) (carries : List ℕ) → w ≤ e
-    → e ≤ w + length window → Filled f xs n window w e carries
-    → memoryKept f M e (take n xs) ≡ all (λ h. leb h M) (take (e - w) window) && memoryKept f M w (take n xs)
+    → length window ≡ e - w → Filled f xs n window w e carries
+    → memoryKept f M e (take n xs) ≡ below (length window) (λ i. leb (getD window i 0) M) && memoryKept f M w (take n xs)
 unfolding memoryKept
 kept-window f M xs n window w e carries h k g =
-    let z : e ≡ w + (e - w) = omega arith in
+    let z : e ≡ w + length window = omega arith in
     ap (λ (t : ℕ). below t (λ (s : ℕ). leb (heldIn f s (take n xs)) M)) z
-    ∙ below-window (λ (s : ℕ). leb (heldIn f s (take n xs)) M) (λ (v : ℕ). leb v M) window w (e - w) (omega arith) place
+    ∙ below-window (λ (s : ℕ). leb (heldIn f s (take n xs)) M) (λ (i : ℕ). leb (getD window i 0) M) w (length window) place
   where
-    place : (i : ℕ) → i < e - w → leb (getD window i 0) M ≡ leb (heldIn f (w + i) (take n xs)) M
+    place : (i : ℕ) → i < length window → leb (getD window i 0) M ≡ leb (heldIn f (w + i) (take n xs)) M
     place i u =
         let d : w + i - w ≡ i = omega arith in
         ap (λ (v : ℕ). leb v M) (ap (λ (j : ℕ). getD window j 0) (sym d) ∙ g .held (w + i) (omega arith) (omega arith))
+
+-- the numbers of a filled window are below 2^63
+pub window-small : (f : List ℕ) (xs : List Stream) (n : ℕ) (window : List ℕ) (w e : ℕ) (carries : List ℕ) → n ≤ maxBookings
+    → Filled f xs n window w e carries → (i : ℕ) → getD window i 0 < 2 ^ 63
+window-small f xs n window w e carries few g i = omega (arith, getD-largest window i, g .most, few)
 
 -- no round is left
 pub kept-none : (f : List ℕ) (M : ℕ) (xs : List Stream) → memoryKept f M 0 xs ≡ true

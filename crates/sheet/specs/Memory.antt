@@ -2,11 +2,11 @@
 use mathlib.Core.Path.{_≡_}
 use mathlib.Core.Bool.{Bool, true, false, cond, _&&_}
 use mathlib.Core.List.{List, _++_}
-use Prim.Native.Nat.{ℕ, zero, suc, _+_, _-_, _^_, _≤_, _<_, min, max}
+use Prim.Native.Nat.{ℕ, zero, suc, _+_, _-_, _*_, _^_, _≤_, _<_, min, max}
 use lib.ListN.{length, getD, take, drop, replicate}
 use lib.Dec.{leb, ltb}
 use Rattle.limits.specs.Bounds.{maxBookings}
-use Rattle.laws.specs.Tests.{below}
+use Rattle.laws.specs.Tests.{all, below}
 use Rattle.laws.specs.Sums.{largest}
 use Rattle.retrieval.specs.JustInTime.{existsBy}
 use Rattle.retrieval.specs.Stored.{maxHeld}
@@ -77,6 +77,7 @@ pub record Fills (f : List ℕ) (xs : List Stream) (n : ℕ) (window : List ℕ)
 -- and what is found then: in each of the window's rounds what the streams hold together
 pub record Filled (f : List ℕ) (xs : List Stream) (n : ℕ) (window : List ℕ) (w e : ℕ) (carries : List ℕ) : Type 0 where
   pub held : (t : ℕ) → w ≤ t → t < e → getD window (t - w) 0 ≡ heldIn f t (take n xs)
+  pub most : largest window ≤ maxHeld * n
   pub carried : (i : ℕ) → i < n → getD carries i 0 ≡ carryFrom f w (getD xs i noStream)
 
 -- and what is found once it is tested: r says whether its rounds keep the limit M
@@ -90,6 +91,11 @@ pub record WindowKept (f : List ℕ) (xs : List Stream) (n M w e : ℕ) (carries
 pub record Agrees (f : List ℕ) (xs : List Stream) (list : List ℕ) (e T : ℕ) : Type 0 where
   pub long : T ≤ length list
   pub held : (t : ℕ) → e ≤ t → t < T → getD list t 0 ≡ heldIn f t xs
+
+-- what a check of a day tells: whether every round keeps the limit M and every stream has a schedule, and whether a list by round has
+-- what is held
+abbrev pub Tells : List ℕ → List Stream → ℕ → ℕ → List ℕ → Bool → Bool → Type 0
+Tells f xs M T list kept same = (kept ≡ memoryKept f M T xs && all (feasible f) xs) × (same ≡ true → Agrees f xs list 0 T)
 
 -- ---- a list by round that is written where it was 0
 

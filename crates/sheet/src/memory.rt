@@ -1,9 +1,10 @@
 // Memory's side of a day, tested in windows of rounds from the last to the first, so that no list by round is needed. A
 // stream's carry goes from window to window. Rounds in which nothing is open are in no window.
 use limits::bounds::MAX_BOOKINGS;
+use lists::joined::all_within;
+use lists::joined::difference;
 use load::stream::Stream;
 use retrieval::clear::clear;
-use std::num::wrapping_sub_u64;
 use table::streams::stream_at;
 ghost use mathlib.Core.Path.{_≡_};
 ghost use mathlib.Core.Bool.{true, false, _&&_};
@@ -18,10 +19,14 @@ ghost use Rattle.load.specs.Stream.{heldIn};
 ghost use Rattle.table.specs.Columns.{tableWords};
 ghost use Rattle.table.specs.Streams.{streams};
 ghost use Rattle.sheet.specs.Memory.{feasible, memoryKept, Spans, later, openUntil, earlier, openFrom};
-ghost use Rattle.sheet.specs.Memory.{Windowed, Added, Fills, Filled, WindowKept, Agrees, Put, Rest, Settled};
+ghost use Rattle.sheet.specs.Memory.{Windowed, Added, Fills, Filled, WindowKept, Agrees, Tells, Put, Rest, Settled};
 
 // rounds in a window, at most
-const WINDOW: usize = 4096;
+const SHORT: usize = 1024;
+
+const MIDDLE: usize = 4096;
+
+const LONG: usize = 8192;
 
 // Whether the rounds of a day keep the memory limit, whether a list by round has just what is held in them, and whether it was 0
 // before it was written.
@@ -156,28 +161,6 @@ fn window_fill(
     }
 }
 
-// Whether none of the first n places exceeds the memory limit.
-fn window_within(window: &[u64], n: usize, memory: u64) -> bool
-    requires { ⌜ n ≤ length (now window) ⌝ }
-    ensures { λ r. ⌜ r ≡ all (λ h. leb h memory) (take n (now (window .entry))) ⌝ }
-{
-    let mut i = 0;
-    while i < n {
-        if memory < window[i] {
-            return false;
-        }
-        i += 1;
-    }
-    true
-}
-
-// 0 only if two numbers are the same.
-fn difference(a: u64, b: u64) -> u64
-    ensures { λ r. ⌜ (r ≡ 0 → a ≡ b) ⌝ }
-{
-    wrapping_sub_u64(a, b)
-}
-
 // Whether the n places of a list from w on are the first n of a window; not asked unless `asked`. The differences are joined, so
 // that there is no test from place to place.
 fn same_places(asked: bool, list: &[u64], w: usize, window: &[u64], n: usize) -> bool
@@ -271,7 +254,7 @@ fn window_kept(
     let n = e - w;
     clear(window, n);
     window_fill(file, table, count, window, w, e, carries);
-    let kept = window_within(window, n, memory);
+    let kept = all_within(window, memory);
     let same = settle_places(blank, asked, helds, w, window, n);
     Checked { kept, same, blank }
 }
@@ -292,7 +275,8 @@ fn none_left(carries: [u64; MAX_BOOKINGS], count: usize) -> bool
 }
 
 // Whether every round of the day keeps the memory limit and every stream has a schedule; and if they do, whether the first T
-// places of `helds` are what is held by round. A list that is shorter is not looked at, and one that is blank is written.
+// places of `helds` are what is held by round. A list that is shorter is not looked at, and one that is blank is written. The windows
+// have as many rounds as `window` has places, whatever stands there.
 fn held_windows(
     file: &[u8],
     table: &[u64],
@@ -300,22 +284,22 @@ fn held_windows(
     day_rounds: usize,
     memory: u64,
     blank: bool,
+    window: &mut [u64],
     helds: &mut [u64],
 ) -> Checked
-    requires { ⌜ (tableWords ≤ length (now table)) × (count ≤ maxBookings) × EachOf (Playable (now file)) count (streams (now table)) × EachOf (Within «day_rounds») count (streams (now table)) × Settled blank «day_rounds» (now helds) (now helds) ⌝ }
-    ensures { λ r. ⌜ ((r .kept ≡ memoryKept (now (file .entry)) memory «day_rounds» (take count (streams (now (table .entry)))) && all (feasible (now (file .entry))) (take count (streams (now (table .entry))))) × (r .same ≡ true → Agrees (now (file .entry)) (take count (streams (now (table .entry)))) (now (helds .exit)) 0 «day_rounds»)) ⌝ }
+    requires { ⌜ (tableWords ≤ length (now table)) × (count ≤ maxBookings) × EachOf (Playable (now file)) count (streams (now table)) × EachOf (Within «day_rounds») count (streams (now table)) × Settled blank «day_rounds» (now helds) (now helds) × (0 < length (now window)) ⌝ }
+    ensures { λ r. ⌜ Tells (now (file .entry)) (take count (streams (now (table .entry)))) memory «day_rounds» (now (helds .exit)) (r .kept) (r .same) ⌝ }
     ensures { λ r. ⌜ Settled (r .blank) «day_rounds» (now (helds .entry)) (now (helds .exit)) ⌝ }
 {
     let mut starts = [0usize; MAX_BOOKINGS];
     let mut ends = [0usize; MAX_BOOKINGS];
     spans(table, count, &mut starts, &mut ends);
     let mut carries = [0u64; MAX_BOOKINGS];
-    let mut window = [0u64; WINDOW];
     let mut e = open_until(&starts, &ends, count, day_rounds);
     let long = day_rounds <= helds.len();
     let mut same = empty_places(long, helds, e, day_rounds);
     while 0 < e {
-        let w = open_from(&starts, &ends, count, e - smaller(e, WINDOW), e - 1);
+        let w = open_from(&starts, &ends, count, e - smaller(e, window.len()), e - 1);
         let n = e - w;
         let checked = window_kept(
             file,
@@ -342,6 +326,111 @@ fn held_windows(
     }
     let kept = none_left(carries, count);
     Checked { kept, same, blank }
+}
+
+// `held_windows` in short windows.
+fn held_short(
+    file: &[u8],
+    table: &[u64],
+    count: usize,
+    day_rounds: usize,
+    memory: u64,
+    blank: bool,
+    helds: &mut [u64],
+) -> Checked
+    requires { ⌜ (tableWords ≤ length (now table)) × (count ≤ maxBookings) × EachOf (Playable (now file)) count (streams (now table)) × EachOf (Within «day_rounds») count (streams (now table)) × Settled blank «day_rounds» (now helds) (now helds) ⌝ }
+    ensures { λ r. ⌜ Tells (now (file .entry)) (take count (streams (now (table .entry)))) memory «day_rounds» (now (helds .exit)) (r .kept) (r .same) ⌝ }
+    ensures { λ r. ⌜ Settled (r .blank) «day_rounds» (now (helds .entry)) (now (helds .exit)) ⌝ }
+{
+    let mut window = [0u64; SHORT];
+    held_windows(
+        file,
+        table,
+        count,
+        day_rounds,
+        memory,
+        blank,
+        &mut window,
+        helds,
+    )
+}
+
+// `held_windows` in windows of middle length.
+fn held_middle(
+    file: &[u8],
+    table: &[u64],
+    count: usize,
+    day_rounds: usize,
+    memory: u64,
+    blank: bool,
+    helds: &mut [u64],
+) -> Checked
+    requires { ⌜ (tableWords ≤ length (now table)) × (count ≤ maxBookings) × EachOf (Playable (now file)) count (streams (now table)) × EachOf (Within «day_rounds») count (streams (now table)) × Settled blank «day_rounds» (now helds) (now helds) ⌝ }
+    ensures { λ r. ⌜ Tells (now (file .entry)) (take count (streams (now (table .entry)))) memory «day_rounds» (now (helds .exit)) (r .kept) (r .same) ⌝ }
+    ensures { λ r. ⌜ Settled (r .blank) «day_rounds» (now (helds .entry)) (now (helds .exit)) ⌝ }
+{
+    let mut window = [0u64; MIDDLE];
+    held_windows(
+        file,
+        table,
+        count,
+        day_rounds,
+        memory,
+        blank,
+        &mut window,
+        helds,
+    )
+}
+
+// `held_windows` in long windows.
+fn held_long(
+    file: &[u8],
+    table: &[u64],
+    count: usize,
+    day_rounds: usize,
+    memory: u64,
+    blank: bool,
+    helds: &mut [u64],
+) -> Checked
+    requires { ⌜ (tableWords ≤ length (now table)) × (count ≤ maxBookings) × EachOf (Playable (now file)) count (streams (now table)) × EachOf (Within «day_rounds») count (streams (now table)) × Settled blank «day_rounds» (now helds) (now helds) ⌝ }
+    ensures { λ r. ⌜ Tells (now (file .entry)) (take count (streams (now (table .entry)))) memory «day_rounds» (now (helds .exit)) (r .kept) (r .same) ⌝ }
+    ensures { λ r. ⌜ Settled (r .blank) «day_rounds» (now (helds .entry)) (now (helds .exit)) ⌝ }
+{
+    let mut window = [0u64; LONG];
+    held_windows(
+        file,
+        table,
+        count,
+        day_rounds,
+        memory,
+        blank,
+        &mut window,
+        helds,
+    )
+}
+
+// `held_windows` in windows of a length that suits the day: to zero a long one takes longer than a short day's check, and in short ones
+// films are taken up more often.
+fn held_day(
+    file: &[u8],
+    table: &[u64],
+    count: usize,
+    day_rounds: usize,
+    memory: u64,
+    blank: bool,
+    helds: &mut [u64],
+) -> Checked
+    requires { ⌜ (tableWords ≤ length (now table)) × (count ≤ maxBookings) × EachOf (Playable (now file)) count (streams (now table)) × EachOf (Within «day_rounds») count (streams (now table)) × Settled blank «day_rounds» (now helds) (now helds) ⌝ }
+    ensures { λ r. ⌜ Tells (now (file .entry)) (take count (streams (now (table .entry)))) memory «day_rounds» (now (helds .exit)) (r .kept) (r .same) ⌝ }
+    ensures { λ r. ⌜ Settled (r .blank) «day_rounds» (now (helds .entry)) (now (helds .exit)) ⌝ }
+{
+    if day_rounds <= SHORT {
+        return held_short(file, table, count, day_rounds, memory, blank, helds);
+    }
+    if day_rounds <= LONG {
+        return held_middle(file, table, count, day_rounds, memory, blank, helds);
+    }
+    held_long(file, table, count, day_rounds, memory, blank, helds)
 }
 
 // Whether a list of T places may be blank. One that has something in the last round of the first stream is not, which spares the look
@@ -386,12 +475,12 @@ pub fn held_within(
     helds: &mut [u64],
 ) -> Checked
     requires { ⌜ (tableWords ≤ length (now table)) × (count ≤ maxBookings) × EachOf (Playable (now file)) count (streams (now table)) × EachOf (Within «day_rounds») count (streams (now table)) ⌝ }
-    ensures { λ r. ⌜ ((r .kept ≡ memoryKept (now (file .entry)) memory «day_rounds» (take count (streams (now (table .entry)))) && all (feasible (now (file .entry))) (take count (streams (now (table .entry))))) × (r .same ≡ true → Agrees (now (file .entry)) (take count (streams (now (table .entry)))) (now (helds .exit)) 0 «day_rounds»)) ⌝ }
+    ensures { λ r. ⌜ Tells (now (file .entry)) (take count (streams (now (table .entry)))) memory «day_rounds» (now (helds .exit)) (r .kept) (r .same) ⌝ }
     ensures { λ r. ⌜ (Settled (r .blank) «day_rounds» (now (helds .entry)) (now (helds .exit)) × (r .kept ≡ false → r .blank ≡ false)) ⌝ }
 {
     let asked = maybe_blank(table, count, day_rounds, helds);
     let blank = empty_places(asked, helds, 0, day_rounds);
-    let checked = held_windows(file, table, count, day_rounds, memory, blank, helds);
+    let checked = held_day(file, table, count, day_rounds, memory, blank, helds);
     if checked.kept {
         return checked;
     }

@@ -1,36 +1,27 @@
--- `retrieval::write_profile` meets its contract: the film is added to zeros; a schedule exists if its rounds leave nothing. Assumes
--- nothing.
-use mathlib.Core.Path.{_≡_, sym, ap, _∙_}
+-- `retrieval::write_profile` meets its contract: the list is zeroed before it is written. Assumes nothing.
+use mathlib.Core.Path.{_≡_, ap, _∙_}
+use mathlib.Core.List.{List, _++_}
 use Prim.Native.Nat.{ℕ, _+_}
 use native.Mathlib.Omega.{arith}
 use borrow.Author.Needs.{needs}
-use lib.Dec.{eqb}
+use Rattle.retrieval.specs.Carry.{profile}
 use Rattle.retrieval.specs.Stored.{sendsAt}
-use Rattle.retrieval.specs.Written.{exists-test, zeros-length, zeros-take, zeros-written}
+use Rattle.retrieval.specs.Written.{cleared-front}
 use Rattle.retrieval.proofs.write_profile.Statement.{statement}
 use Rattle.retrieval.proofs.write_profile.Tie as tie
 
-add-rounds : tie.Need-add-rounds
-add-rounds c = search needs
+add-clear : tie.Need-add-clear
+add-clear c = search needs
 
 clear-requires : tie.Need-clear-requires
 clear-requires c κs = search needs
 
-slice-relend-prefix-add-held : tie.Need-slice-relend-prefix-add-held
-slice-relend-prefix-add-held c = search needs
-
-slice-aggregate-add-held : tie.Need-slice-aggregate-add-held
-slice-aggregate-add-held c =
-    let a = c .before .before .before .before .before .before .before .args in
-    let cleared = c .before .before .before .clear in
-    sym (zeros-length (a .file .now) (a .at) (a .n) (a .p) (a .b) (a .part .now) (cleared .last .0) (cleared .ensures))
-
-add-held-requires : tie.Need-add-held-requires
-add-held-requires c κs =
+write-blank-requires : tie.Need-write-blank-requires
+write-blank-requires c κs =
     let start = c .before .before .before .before .before .before .before in
     let a = start .args in
     let cleared = c .before .before .before .clear in
-    zeros-take (a .file .now) (a .at) (a .n) (a .p) (a .b) (a .part .now) (cleared .last .0) (cleared .ensures) (start .pre .0)
+    (start .pre .0, search needs, cleared-front (a .p + a .n) (a .part .now) (cleared .last .0) (cleared .ensures) .0)
 
 same-length : tie.Need-same-length
 same-length c = search needs
@@ -39,19 +30,10 @@ returns : tie.Need-returns
 returns c =
     let a = c .before .before .before .before .before .before .before .before .before .before .args in
     let cleared = c .before .before .before .before .before .before .clear in
-    let added = c .before .before .add-held in (
-      zeros-written (a .file .now) (a .at) (a .n) (a .p) (a .b) (a .part .now) (cleared .last .0) (cleared .ensures) (added .last .0) (added .ensures .0),
-      ap (λ (k : ℕ). eqb k 0) (added .ensures .1) ∙ exists-test (a .b) (sendsAt (a .file .now) (a .at) (a .n) (a .p)),
-    )
+    let blank = c .before .before .write-blank in
+    let rest = cleared-front (a .p + a .n) (a .part .now) (cleared .last .0) (cleared .ensures) .1 in
+    (blank .ensures .0 ∙ ap (λ (l : List ℕ). profile (a .b) (sendsAt (a .file .now) (a .at) (a .n) (a .p)) ++ l) rest, blank .ensures .1)
 
 pub write-profile-spec : {M : Type 1} → statement M
 write-profile-spec =
-    tie.close
-    (tie.spec
-    add-rounds
-    clear-requires
-    slice-relend-prefix-add-held
-    slice-aggregate-add-held
-    add-held-requires
-    same-length
-    returns)
+    tie.close (tie.spec add-clear clear-requires write-blank-requires same-length returns)

@@ -1,7 +1,7 @@
 -- `planning::schedules::plan` meets its contract: each return is the first "no" of the questions in their order.
 -- Assumes nothing.
-use mathlib.Core.Path.{sym, _∙_}
-use mathlib.Core.List.{List}
+use mathlib.Core.Path.{sym, ap, _∙_}
+use mathlib.Core.List.{List, _++_}
 use Prim.Native.Nat.{ℕ, _+_}
 use native.Mathlib.Omega.{arith}
 use borrow.Author.Needs.{needs}
@@ -12,8 +12,9 @@ use Rattle.films.specs.Sizes.{sizes}
 use Rattle.retrieval.specs.JustInTime.{existsBy}
 use Rattle.retrieval.specs.CarryLaws.{length-justInTime}
 use Rattle.retrieval.specs.Stored.{sendsAt, length-sizes, length-sendsAt, held-bound}
+use Rattle.retrieval.specs.Sheet.{plus}
 use Rattle.retrieval.specs.Written.{written-places, written-at, written-length}
-use Rattle.planning.specs.Written.{Holds, totals-held}
+use Rattle.planning.specs.Written.{Holds, zeros-first, sentBefore, totals-held}
 use Rattle.planning.specs.AnswerLaws.{plan-prefetch, plan-reserve, plan-room, plan-none, plan-passes, planned-refused, planned-written}
 use Rattle.planning.proofs.schedules.plan.Statement.{statement}
 use Rattle.planning.proofs.schedules.plan.Tie as tie
@@ -45,11 +46,14 @@ returns-3 c =
     planned-refused xs (a .p) (a .b) out noRoom (omega arith)
     (plan-room xs (a .p) (a .b) (length out) (omega arith) (omega arith) (omega arith))
 
-slice-aggregate-write-profile : tie.Need-slice-aggregate-write-profile
-slice-aggregate-write-profile c = search needs
+slice-aggregate-write-blank : tie.Need-slice-aggregate-write-blank
+slice-aggregate-write-blank c = search needs
 
-write-profile-requires : tie.Need-write-profile-requires
-write-profile-requires c κs = search needs
+write-blank-requires : tie.Need-write-blank-requires
+write-blank-requires c κs =
+    let start = c .before .before .before .before .before .before in
+    let a = start .args in
+    (search needs, search needs, zeros-first (a .p + a .n) 4352 (omega (arith, start .pre .few)))
 
 returns-4 : tie.Need-returns-4
 returns-4 c =
@@ -58,7 +62,7 @@ returns-4 c =
     let out = a .out .now in
     let lx = length-sizes (a .file .now) (a .at) (a .n) in
     planned-refused xs (a .p) (a .b) out noSchedule (omega arith)
-    (plan-none xs (a .p) (a .b) (length out) (omega arith) (omega arith) (omega arith) (sym (c .before .before .write-profile .ensures .1) ∙ not-true _ (c .if4 .taken)))
+    (plan-none xs (a .p) (a .b) (length out) (omega arith) (omega arith) (omega arith) (sym (c .before .before .write-blank .ensures .1) ∙ not-true _ (c .if4 .taken)))
 
 slice-aggregate-write-totals : tie.Need-slice-aggregate-write-totals
 slice-aggregate-write-totals c = search needs
@@ -68,7 +72,7 @@ write-totals-requires c κs =
     let start = c .before .before .before .before .before .before .before .before .before .before .before in
     let a = start .args in
     let s = a .file .now in
-    let held = c .before .before .before .before .write-profile in
+    let held = c .before .before .before .before .write-blank in
     let zeros : List ℕ = replicate 4352 0 in (
       record {
         stored = start .pre;
@@ -92,13 +96,13 @@ returns-5 c =
     let sent = sendsAt s (a .at) (a .n) (a .p) in
     let out = a .out .now in
     let lx = length-sizes s (a .at) (a .n) in
-    let held = c .before .before .before .before .before .before .before .write-profile in
+    let held = c .before .before .before .before .before .before .before .write-blank in
     let zeros : List ℕ = replicate 4352 0 in
     let first = written-places s (a .at) (a .n) (a .p) (a .b) zeros (held .last .0) (held .ensures .0) in
     planned-written xs (a .p) (a .b) out (c .before .before .write-totals .last .0) (a .p + a .n)
     (plan-passes xs (a .p) (a .b) (length out) (omega arith) (omega arith) (omega arith) (sym (held .ensures .1) ∙ not-false _ (c .before .before .before .before .before .if4 .left)))
     (omega (arith, length-justInTime (a .b) 0 sent, length-sendsAt s (a .at) (a .n) (a .p)))
-    (rw first at (c .before .before .write-totals .ensures) ∙ totals-held (a .b) 0 sent (drop (a .p + a .n) out))
+    (c .before .before .write-totals .ensures ∙ ap (λ (l : List ℕ). plus l (sentBefore sent) ++ drop (a .p + a .n) out) first ∙ ap (λ (l : List ℕ). l ++ drop (a .p + a .n) out) (totals-held (a .b) 0 sent))
 
 pub plan-spec : {M : Type 1} → statement M
 plan-spec =
@@ -108,8 +112,8 @@ plan-spec =
     returns-2
     add-if3
     returns-3
-    slice-aggregate-write-profile
-    write-profile-requires
+    slice-aggregate-write-blank
+    write-blank-requires
     returns-4
     slice-aggregate-write-totals
     write-totals-requires

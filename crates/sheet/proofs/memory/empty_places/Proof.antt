@@ -8,7 +8,7 @@ use borrow.Author.Count.{below-more}
 use borrow.Author.Needs.{needs}
 use borrow.Author.Tests.{not-false, eqb-true}
 use lib.ListN.{length, getD}
-use Rattle.sheet.specs.AgreeLaws.{or-none}
+use Rattle.lists.specs.Joined.{or-none}
 use Rattle.sheet.proofs.memory.empty_places.Statement.{statement}
 use Rattle.sheet.proofs.memory.empty_places.Tie as tie
 

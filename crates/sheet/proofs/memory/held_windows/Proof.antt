@@ -1,7 +1,7 @@
 -- `sheet::memory::held_windows` meets its contract. The invariant: the rounds from e on keep the limit, the carries are those of the rounds
 -- from e on, as long as no difference was found the list has what is held in them, and it was written only where it was blank. The measure
 -- is e. Assumes nothing.
-use mathlib.Core.Path.{_≡_, sym, _∙_, subst}
+use mathlib.Core.Path.{_≡_, refl, sym, _∙_, subst}
 use mathlib.Core.Bool.{true, true≢false}
 use Prim.Native.Nat.{ℕ, zero, _-_, _≤_}
 use native.Mathlib.Omega.{arith}
@@ -18,15 +18,15 @@ use Rattle.sheet.proofs.memory.held_windows.Statement.{statement}
 use Rattle.sheet.proofs.memory.held_windows.Tie as tie
 
 abbrev Inv-loop : tie.InvT-loop
-Inv-loop file table count day-rounds memory blank helds₀ starts ends carries₀ window₀ e₀ long same₀ helds carries window e same =
-    (length window ≡ 4096)
+Inv-loop file table count day-rounds memory blank window₀ helds₀ starts ends carries₀ e₀ long same₀ window helds carries e same =
+    (length window ≡ length window₀)
     × Passed file (streams table) count day-rounds memory carries e
     × (same ≡ true → Agrees file (take count (streams table)) helds e day-rounds)
     × (e ≤ day-rounds)
     × Settled blank day-rounds helds₀ helds
 
 abbrev μ-loop : tie.MeasureT-loop
-μ-loop file table count day-rounds memory blank helds₀ starts ends carries₀ window₀ e₀ long same₀ helds carries window e same = e
+μ-loop file table count day-rounds memory blank window₀ helds₀ starts ends carries₀ e₀ long same₀ window helds carries e same = e
 
 slice-aggregate-spans : tie.Need-slice-aggregate-spans Inv-loop μ-loop
 slice-aggregate-spans c = search needs
@@ -35,7 +35,7 @@ slice-aggregate-spans-2 : tie.Need-slice-aggregate-spans-2 Inv-loop μ-loop
 slice-aggregate-spans-2 c = search needs
 
 spans-requires : tie.Need-spans-requires Inv-loop μ-loop
-spans-requires c κs = (search needs, search needs, λ i h. c .before .before .before .before .before .pre .2 i h .bounded, search needs, search needs)
+spans-requires c κs = (search needs, search needs, λ i h. c .before .before .before .before .before .before .pre .2 i h .bounded, search needs, search needs)
 
 slice-aggregate-open-until : tie.Need-slice-aggregate-open-until Inv-loop μ-loop
 slice-aggregate-open-until c = search needs
@@ -52,14 +52,14 @@ empty-places-requires c κs = λ z. leb-true _ _ z
 loop-holds : tie.Need-loop-holds Inv-loop μ-loop
 loop-holds c =
     let until = c .before .before in
-    let spread = until .before .before .before .before .before in
-    let s = spread .before .before .before .before .before .before in
+    let spread = c .before .before .before .before .before .before .before in
+    let s = c .before .before .before .before .before .before .before .before .before .before .before .before .before .before in
     let a = s .args in
     let spans = spread .spans in
     let starts = spans .last .1 .1 .0 in
     let ends = spans .last .1 .1 .1 .0 in
     let none = passed-none (a .file .now) (streams (a .table .now)) (a .count) (a .day-rounds) (a .memory) (replicate maxBookings 0) (length-replicate maxBookings zero) (zeros-at maxBookings) (s .pre .3) in (
-      length-replicate 4096 zero,
+      refl,
       passed-skip (a .file .now) (streams (a .table .now)) (a .count) (a .day-rounds) (a .memory) (replicate maxBookings 0) (a .day-rounds) none (until .open-until .result) starts ends (s .pre .2) (spans .ensures) (until .open-until .ensures .0),
       λ z.
           let empty = c .empty-places .ensures z in
@@ -90,8 +90,8 @@ open-from-requires c κs = search needs
 sub-n : tie.Need-sub-n Inv-loop μ-loop
 sub-n c = search needs
 
-array-borrow-prefix-window : tie.Need-array-borrow-prefix-window Inv-loop μ-loop
-array-borrow-prefix-window c = search needs
+slice-relend-prefix-window-kept : tie.Need-slice-relend-prefix-window-kept Inv-loop μ-loop
+slice-relend-prefix-window-kept c = search needs
 
 slice-aggregate-window-kept : tie.Need-slice-aggregate-window-kept Inv-loop μ-loop
 slice-aggregate-window-kept c =
@@ -105,8 +105,8 @@ slice-aggregate-window-kept-2 c = search needs
 window-kept-requires : tie.Need-window-kept-requires Inv-loop μ-loop
 window-kept-requires c κs =
     let looped = c .before .before .before .before .before .before .before .before in
-    let spread = looped .before .before .before .before .before .before .before .before in
-    let s = spread .before .before .before .before .before .before in
+    let spread = c in
+    let s = c .before .before .before .before .before .before .before .before .before .before .before .before .before .before .before .before .before .before .before .before .before .before .before in
     let l = looped .loop in
     let n = l .e - c .before .before .before .open-from .result in (
       s .pre .0,
@@ -125,17 +125,24 @@ window-kept-requires c κs =
 
 same-length : tie.Need-same-length Inv-loop μ-loop
 same-length c =
-    let a = c .before .before .before .before .before .before .before .before .before .before .before .before .before .before .before .before .before .before .before .before .before .before .before .before .before .before .before .before .before .args in
-    let l = c .before .before .before .before .before .before .before .before .before .before .before .before .before .before .before .loop in
-    omega (arith, settled-length (a .blank) (a .day-rounds) (a .helds .now) (l .helds) (l .inv .4), c .before .before .before .before .before .before .window-kept .ensures .1 .size)
+    let l = c .before .before .before .before .before .before .before .before .before .before .before .before .before .before .before .before .loop in
+    let n = l .e - c .before .before .before .before .before .before .before .before .before .before .before .open-from .result in
+    let kept = c .before .before .before .before .before .before .before .window-kept in
+    omega (arith, length-append (kept .last .1 .1 .1 .0) (drop n (l .window)), length-drop n (l .window), length-take n (l .window), kept .kept .1 .1 .1 .0, l .inv .0)
+
+same-length-2 : tie.Need-same-length-2 Inv-loop μ-loop
+same-length-2 c =
+    let a = c .before .before .before .before .before .before .before .before .before .before .before .before .before .before .before .before .before .before .before .before .before .before .before .before .before .before .before .before .before .before .before .args in
+    let l = c .before .before .before .before .before .before .before .before .before .before .before .before .before .before .before .before .loop in
+    omega (arith, settled-length (a .blank) (a .day-rounds) (a .helds .now) (l .helds) (l .inv .4), c .before .before .before .before .before .before .before .window-kept .ensures .1 .size)
 
 returns : tie.Need-returns Inv-loop μ-loop
 returns c =
-    let from = c .before .before .before .before .before .before .before .before .before .before .open-from in
-    let s = c .before .before .before .before .before .before .before .before .before .before .before .before .before .before .before .before .before .before .before .before .before .before .before .before .before .before .before .before .before in
+    let from = c .before .before .before .before .before .before .before .before .before .before .before .open-from in
+    let s = c .before .before .before .before .before .before .before .before .before .before .before .before .before .before .before .before .before .before .before .before .before .before .before .before .before .before .before .before .before .before .before in
     let a = s .args in
-    let l = c .before .before .before .before .before .before .before .before .before .before .before .before .before .before .before .loop in
-    let kept = c .before .before .before .before .before .before .window-kept in (
+    let l = c .before .before .before .before .before .before .before .before .before .before .before .before .before .before .before .before .loop in
+    let kept = c .before .before .before .before .before .before .before .window-kept in (
       (
         sym (passed-no (a .file .now) (streams (a .table .now)) (a .count) (a .day-rounds) (a .memory) (l .carries) (l .e) (l .inv .1) (from .result) (kept .last .1 .1 .1 .1 .1 .1 .0) (kept .result .kept) (kept .ensures .0 .0) (not-true _ (c .if1 .taken))),
         λ e. absurd (true≢false (sym e)),
@@ -144,21 +151,21 @@ returns c =
     )
 
 slice-aggregate-open-until-3 : tie.Need-slice-aggregate-open-until-3 Inv-loop μ-loop
-slice-aggregate-open-until-3 c = let first = c .before .before .before .before .before .before .before .before .before .before .before .before .before .before .before .before .before .before .before in omega (arith, first)
+slice-aggregate-open-until-3 c = let first = c .before .before .before .before .before .before .before .before .before .before .before .before .before .before .before .before .before .before .before .before in omega (arith, first)
 
 slice-aggregate-open-until-4 : tie.Need-slice-aggregate-open-until-4 Inv-loop μ-loop
-slice-aggregate-open-until-4 c = let first = c .before .before .before .before .before .before .before .before .before .before .before .before .before .before .before .before .before .before .before .before in omega (arith, first)
+slice-aggregate-open-until-4 c = let first = c .before .before .before .before .before .before .before .before .before .before .before .before .before .before .before .before .before .before .before .before .before in omega (arith, first)
 
 open-until-requires-2 : tie.Need-open-until-requires-2 Inv-loop μ-loop
 open-until-requires-2 c κs =
-    let first = c .before .before .before .before .before .before .before .before .before .before .before .before .before .before .before .before .before .before .before .before in
+    let first = c .before .before .before .before .before .before .before .before .before .before .before .before .before .before .before .before .before .before .before .before .before in
     (omega (arith, first), omega (arith, first))
 
 empty-places-requires-2 : tie.Need-empty-places-requires-2 Inv-loop μ-loop
 empty-places-requires-2 c κs =
-    let kept = c .before .before .before .before .before .before .before .before .before .before .window-kept in
-    let from = c .before .before .before .before .before .before .before .before .before .before .before .before .before .before .open-from in
-    let l = c .before .before .before .before .before .before .before .before .before .before .before .before .before .before .before .before .before .before .before .loop in
+    let kept = c .before .before .before .before .before .before .before .before .before .before .before .window-kept in
+    let from = c .before .before .before .before .before .before .before .before .before .before .before .before .before .before .before .open-from in
+    let l = c .before .before .before .before .before .before .before .before .before .before .before .before .before .before .before .before .before .before .before .before .loop in
     λ z. omega (arith, l .inv .2 (kept .ensures .0 .1 z .0) .long, kept .ensures .1 .size, l .inv .3, from .ensures .2)
 
 loop-less : tie.Need-loop-less Inv-loop μ-loop
@@ -168,21 +175,21 @@ loop-again : tie.Need-loop-again Inv-loop μ-loop
 loop-again c =
     let until = c .before .before in
     let back = c .before .before .before .before .before .before .before .before .before in
-    let from = c .before .before .before .before .before .before .before .before .before .before .before .before .before .before .before .open-from in
-    let l = c .before .before .before .before .before .before .before .before .before .before .before .before .before .before .before .before .before .before .before .before .loop in
-    let spread = c .before .before .before .before .before .before .before .before .before .before .before .before .before .before .before .before .before .before .before .before .before .before .before .before .before .before .before .before in
-    let s = c .before .before .before .before .before .before .before .before .before .before .before .before .before .before .before .before .before .before .before .before .before .before .before .before .before .before .before .before .before .before .before .before .before .before in
+    let from = c .before .before .before .before .before .before .before .before .before .before .before .before .before .before .before .before .open-from in
+    let l = c .before .before .before .before .before .before .before .before .before .before .before .before .before .before .before .before .before .before .before .before .before .loop in
+    let spread = c .before .before .before .before .before .before .before .before .before .before .before .before .before .before .before .before .before .before .before .before .before .before .before .before .before .before .before .before .before in
+    let s = c .before .before .before .before .before .before .before .before .before .before .before .before .before .before .before .before .before .before .before .before .before .before .before .before .before .before .before .before .before .before .before .before .before .before .before .before in
     let a = s .args in
     let spans = spread .spans in
     let starts = spans .last .1 .1 .0 in
     let ends = spans .last .1 .1 .1 .0 in
-    let kept = c .before .before .before .before .before .before .before .before .before .before .before .window-kept in
+    let kept = c .before .before .before .before .before .before .before .before .before .before .before .before .window-kept in
     let carries = kept .last .1 .1 .1 .1 .1 .1 .0 in
     let helds = kept .last .1 .1 .1 .1 .1 .1 .1 .1 .1 .1 .0 in
     let next = passed-next (a .file .now) (streams (a .table .now)) (a .count) (a .day-rounds) (a .memory) (l .carries) (l .e) (l .inv .1) (from .result) carries (kept .result .kept) (kept .ensures .0 .0) (omega (arith, back, l .inv .1 .size)) (not-false _ (c .before .before .before .before .before .if1 .left)) in
     let n = l .e - from .result in
     let size = length-append (kept .last .1 .1 .1 .0) (drop n (l .window)) in (
-      omega (arith, length-drop n (l .window), length-take n (l .window)),
+      omega (arith, size, length-drop n (l .window), length-take n (l .window), kept .kept .1 .1 .1 .0, l .inv .0),
       passed-skip (a .file .now) (streams (a .table .now)) (a .count) (a .day-rounds) (a .memory) carries (from .result) next (until .open-until2 .result) starts ends (s .pre .2) (spans .ensures) (until .open-until2 .ensures .0),
       λ z.
           let empty = c .empty-places2 .ensures z in
@@ -198,15 +205,18 @@ loop-again c =
 none-left-requires : tie.Need-none-left-requires Inv-loop μ-loop
 none-left-requires c κs = search needs
 
-same-length-2 : tie.Need-same-length-2 Inv-loop μ-loop
-same-length-2 c =
-    let a = c .before .before .before .before .before .before .before .before .before .before .before .before .before .before .before .before .args in
+same-length-3 : tie.Need-same-length-3 Inv-loop μ-loop
+same-length-3 c = let l = c .before .before .loop in l .inv .0
+
+same-length-4 : tie.Need-same-length-4 Inv-loop μ-loop
+same-length-4 c =
+    let a = c .before .before .before .before .before .before .before .before .before .before .before .before .before .before .before .before .before .args in
     let l = c .before .before .loop in
     omega (arith, settled-length (a .blank) (a .day-rounds) (a .helds .now) (l .helds) (l .inv .4))
 
 returns-2 : tie.Need-returns-2 Inv-loop μ-loop
 returns-2 c =
-    let s = c .before .before .before .before .before .before .before .before .before .before .before .before .before .before .before .before in
+    let s = c .before .before .before .before .before .before .before .before .before .before .before .before .before .before .before .before .before in
     let a = s .args in
     let l = c .before .before .loop in
     let end : l .e ≡ 0 = omega arith in (
@@ -238,11 +248,12 @@ held-windows-spec =
     sub-open-from-2
     open-from-requires
     sub-n
-    array-borrow-prefix-window
+    slice-relend-prefix-window-kept
     slice-aggregate-window-kept
     slice-aggregate-window-kept-2
     window-kept-requires
     same-length
+    same-length-2
     returns
     slice-aggregate-open-until-3
     slice-aggregate-open-until-4
@@ -251,5 +262,6 @@ held-windows-spec =
     loop-less
     loop-again
     none-left-requires
-    same-length-2
+    same-length-3
+    same-length-4
     returns-2)

@@ -14,8 +14,8 @@ maybe-blank-requires c κs =
 empty-places-requires : tie.Need-empty-places-requires
 empty-places-requires c κs = c .before .maybe-blank .ensures
 
-held-windows-requires : tie.Need-held-windows-requires
-held-windows-requires c κs =
+held-day-requires : tie.Need-held-day-requires
+held-day-requires c κs =
     let s = c .before .before .before .before .before .before .before .before in
     let a = s .args in
     let may = c .before .before .before .maybe-blank in
@@ -32,11 +32,11 @@ same-length c = search needs
 
 returns : tie.Need-returns
 returns c =
-    let held = c .before .before .before .held-windows in
+    let held = c .before .before .before .held-day in
     (held .ensures .0, (held .ensures .1, λ z. absurd (true≢false (sym (c .if1 .taken) ∙ z))))
 
 restore-requires : tie.Need-restore-requires
-restore-requires c κs = c .before .before .before .before .held-windows .ensures .1 .long
+restore-requires c κs = c .before .before .before .before .held-day .ensures .1 .long
 
 same-length-2 : tie.Need-same-length-2
 same-length-2 c = search needs
@@ -44,7 +44,7 @@ same-length-2 c = search needs
 returns-2 : tie.Need-returns-2
 returns-2 c =
     let a = c .before .before .before .before .before .before .before .before .before .before .before .before .before .before .before .before .args in
-    let held = c .before .before .before .before .before .before .before .held-windows in
+    let held = c .before .before .before .before .before .before .before .held-day in
     let restored = c .before .before .restore in
     let no : held .result .kept ≡ false = c .before .before .before .before .if1 .left in (
       (sym no ∙ held .ensures .0 .0, λ z. absurd (true≢false (sym z))),
@@ -61,7 +61,7 @@ held-within-spec =
     (tie.spec
     maybe-blank-requires
     empty-places-requires
-    held-windows-requires
+    held-day-requires
     same-length
     returns
     restore-requires

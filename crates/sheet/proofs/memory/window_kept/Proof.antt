@@ -4,7 +4,7 @@ use mathlib.Core.Path.{_≡_, subst}
 use native.Mathlib.Omega.{arith}
 use Prim.Native.Nat.{ℕ, _+_, _-_}
 use Rattle.sheet.specs.Memory.{Rest}
-use Rattle.sheet.specs.FillLaws.{kept-window, cleared-all}
+use Rattle.sheet.specs.FillLaws.{kept-window, window-small, cleared-all}
 use Rattle.sheet.specs.AgreeLaws.{window-agrees}
 use borrow.Author.Needs.{needs}
 use Rattle.table.specs.Streams.{streams}
@@ -24,8 +24,12 @@ window-fill-requires c κs =
     let clear = c .before .before .before .before .clear in
     (s .pre .0, rw (cleared-all (a .e - a .w) (a .window .now) (clear .last .0) (s .pre .1) (clear .ensures)) (s .pre .2))
 
-window-within-requires : tie.Need-window-within-requires
-window-within-requires c κs = search needs
+all-within-requires : tie.Need-all-within-requires
+all-within-requires c κs =
+    let fill = c .before .before .before .before .before .window-fill in
+    let s = c .before .before .before .before .before .before .before .before .before .before .before .before .before .before .before .before .before in
+    let a = s .args in
+    λ i h. window-small (a .file .now) (streams (a .table .now)) (a .count) (fill .last .1 .1 .1 .0) (a .w) (a .e) (fill .last .1 .1 .1 .1 .1 .1 .0) (s .pre .2 .few) (fill .ensures) i
 
 settle-places-requires : tie.Need-settle-places-requires
 settle-places-requires c κs =
@@ -56,7 +60,7 @@ returns c =
       (
         record {
           kept =
-              rw (within .window-within .ensures)
+              rw (within .all-within .ensures)
               (kept-window (a .file .now) (a .memory) (streams (a .table .now)) (a .count) window (a .w) (a .e) carries (omega (arith, s .pre .2 .order)) (omega arith) (fill .ensures));
           carried = fill .ensures .carried;
         },
@@ -74,7 +78,7 @@ window-kept-spec =
     sub-n
     clear-requires
     window-fill-requires
-    window-within-requires
+    all-within-requires
     settle-places-requires
     same-length
     same-length-2
