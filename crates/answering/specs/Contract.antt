@@ -1,7 +1,7 @@
 -- A session from its parts, and what a command is to leave of it.
 use mathlib.Core.Path.{_≡_}
 use mathlib.Core.List.{List}
-use Prim.Native.Nat.{ℕ, _<_}
+use Prim.Native.Nat.{ℕ, _≤_, _<_}
 use lib.ListN.{set}
 use Rattle.limits.specs.Bounds.{maxBookings}
 use Rattle.model.specs.declared.Booking.{Booking}
@@ -9,12 +9,15 @@ use Rattle.model.specs.declared.Day.{Day}
 use Rattle.model.specs.declared.Request.{Request}
 use Rattle.model.specs.declared.Answer.{Answer}
 use Rattle.booking.specs.Contract.{dayBooked, rowsBooked}
+use Rattle.dropping.specs.Contract.{counting}
+use Rattle.dropping.specs.Removal.{left}
 use Rattle.commands.specs.declared.Command.{Command}
-use Rattle.commands.specs.declared.Command.the-variants.{Book}
+use Rattle.commands.specs.declared.Command.the-variants.{Book, Drop}
 use Rattle.console.specs.Session.{SessionState}
 use Rattle.console.specs.Contract.{stepOf}
 use Rattle.answering.specs.declared.Answered.{Answered}
 use Rattle.answering.specs.declared.Recorded.{Recorded}
+use Rattle.answering.specs.declared.Removed.{Removed}
 
 -- a session from its day, its records' places and its sheet
 abbrev pub sessionAt : Day → List Booking → List ℕ → List ℕ → List ℕ → SessionState
@@ -24,10 +27,6 @@ sessionAt day rows opens reserves helds = record { day = day; rows = rows; opens
 pub record AnswersOnly (f : List ℕ) (s : SessionState) (command : Command) (buffer : List ℕ) (r : Answered) (opens′ reserves′ helds′ buffer′ : List ℕ) : Type 0 where
   pub step : record { state = sessionAt (r .day) (r .rows) opens′ reserves′ helds′; buffer = buffer′; count = r .length } ≡ stepOf f s command buffer
   pub none : r .to ≡ 0
-
--- the day with another number of bookings
-abbrev pub counting : Day → ℕ → Day
-counting day n = record { rounds = day .rounds; disk = day .disk; memory = day .memory; now = day .now; count = n }
 
 -- day and records after an answer whose text has n bytes, where `first` stands first
 pub record Records (day : Day) (first : Booking) (q : Request) (a : Answer) (n : ℕ) (r : Recorded) : Type 0 where
@@ -42,3 +41,10 @@ pub record AnswersBook (f : List ℕ) (day : Day) (rows : List Booking) (opens r
   pub step : record { state = sessionAt (counting day (r .count)) (set rows (r .place) (r .record)) opens′ reserves′ helds′; buffer = buffer′; count = r .length }
       ≡ stepOf f (sessionAt day rows opens reserves helds) (Book q) buffer
   pub inside : r .place < maxBookings
+
+-- DROP is carried out, once the record at the place is taken out and the day counts as many bookings
+pub record AnswersDrop (f : List ℕ) (day : Day) (rows : List Booking) (opens reserves helds : List ℕ) (name : ℕ) (buffer : List ℕ) (r : Removed)
+    (opens′ reserves′ helds′ buffer′ : List ℕ) : Type 0 where
+  pub step : record { state = sessionAt (counting day (r .count)) (left (r .place) (day .count) rows) opens′ reserves′ helds′; buffer = buffer′; count = r .length }
+      ≡ stepOf f (sessionAt day rows opens reserves helds) (Drop name) buffer
+  pub few : day .count ≤ maxBookings

@@ -5,7 +5,7 @@ use commands::Command;
 use console::Session;
 use console::answer::write_first;
 use console::step;
-use dropping::drop_kept;
+use dropping::drop_at;
 use films::types::Catalogue;
 use limits::bounds::HALL_PLACES;
 use limits::bounds::MAX_BOOKINGS;
@@ -24,8 +24,8 @@ ghost use Rattle.booking.specs.Contract.{Recordable};
 ghost use Rattle.booking.specs.Own.{maxLength};
 ghost use Rattle.commands.specs.declared.Command.the-variants.{Book, Drop};
 ghost use Rattle.text.specs.Digits.{outputBytes};
-ghost use Rattle.answering.specs.Contract.{sessionAt, AnswersOnly, Records, AnswersBook};
-ghost use Rattle.answering.specs.declared.Order.the-variants.{Wanted};
+ghost use Rattle.answering.specs.Contract.{sessionAt, AnswersOnly, Records, AnswersBook, AnswersDrop};
+ghost use Rattle.answering.specs.declared.Order.the-variants.{Wanted, Unwanted};
 ghost use Rattle.answering.specs.Kept.{Ready};
 
 // places of the program's list of bookings, and of its report
@@ -50,14 +50,24 @@ pub struct Recorded {
     pub record: Booking,
 }
 
-// What a command orders: a booking on a day, or something else.
+// What a DROP on a day leaves: how many bytes of text answer it, how many bookings the day counts, and the place of the record that is to
+// be taken out; where it is refused, their number.
+pub struct Removed {
+    pub length: usize,
+    pub count: u64,
+    pub place: usize,
+}
+
+// What a command orders: a booking on a day, the drop of a name on a day, or something else.
 pub enum Order {
     Wanted(Request),
+    Unwanted(u32),
     Other,
 }
 
-// Any command, as `step` carries it out.
-fn step_any(
+// Any command, as `step` carries it out. On a day a booking is `step_book`'s and a drop `step_drop`'s, which ask no question that would
+// pass.
+pub fn step_rows(
     file: &[u8],
     day: Day,
     rows: [Booking; MAX_BOOKINGS],
@@ -91,16 +101,16 @@ fn step_any(
     }
 }
 
-// The request of a BOOK on a day.
+// The request of a BOOK on a day, or the name of a DROP on one.
 pub fn order_of(day: Day, command: Command) -> Order
-    ensures { λ r. ⌜ ((q : Request) → r ≡ Wanted q → (command ≡ Book q) × (0 < day .rounds)) ⌝ }
+    ensures { λ r. ⌜ (((q : Request) → r ≡ Wanted q → (command ≡ Book q) × (0 < day .rounds)) × ((name : ℕ) → r ≡ Unwanted name → (command ≡ Drop name) × (0 < day .rounds))) ⌝ }
 {
     if day.rounds == 0 {
         return Order::Other;
     }
     match command {
         Command::Book(q) => Order::Wanted(q),
-        Command::Drop(_) => Order::Other,
+        Command::Drop(name) => Order::Unwanted(name),
         Command::Open(_, _, _) => Order::Other,
         Command::Play => Order::Other,
         Command::Bad => Order::Other,
@@ -174,60 +184,40 @@ pub fn step_book(
     record_answer(day, first, q, answer, length)
 }
 
-// DROP name, on a day
-fn step_drop(
+// DROP name, on a day. The record is the caller's to take out, so that the records' places are not copied back; `profile` is workspace,
+// whatever stands there.
+pub fn step_drop(
     file: &[u8],
     c: Catalogue,
     day: Day,
     rows: [Booking; MAX_BOOKINGS],
     name: u32,
+    profile: &mut [u64],
     opens: &mut [u64],
     reserves: &mut [u64],
     helds: &mut [u64],
     out: &mut [u8],
-) -> Answered
-    requires { ⌜ (outputBytes ≤ length (now out)) × (0 < day .rounds) × Ready (now file) c (sessionAt day rows (now opens) (now reserves) (now helds)) ⌝ }
-    ensures { λ r. ⌜ AnswersOnly (now (file .entry)) (sessionAt day rows (now (opens .entry)) (now (reserves .entry)) (now (helds .entry))) (Drop name) (now (out .entry)) r (now (opens .exit)) (now (reserves .exit)) (now (helds .exit)) (now (out .exit)) ⌝ }
+) -> Removed
+    requires { ⌜ (outputBytes ≤ length (now out)) × (0 < day .rounds) × Ready (now file) c (sessionAt day rows (now opens) (now reserves) (now helds)) × (maxLength ≤ length (now profile)) ⌝ }
+    ensures { λ r. ⌜ AnswersDrop (now (file .entry)) day rows (now (opens .entry)) (now (reserves .entry)) (now (helds .entry)) name (now (out .entry)) r (now (opens .exit)) (now (reserves .exit)) (now (helds .exit)) (now (out .exit)) ⌝ }
 {
-    let dropped = drop_kept(file, c, day, rows, PLACES, name, opens, reserves, helds);
+    let dropped = drop_at(
+        file,
+        c,
+        day,
+        rows,
+        PLACES,
+        name,
+        profile,
+        opens,
+        reserves,
+        helds,
+    );
     let answer = dropped.answer;
     let length = write_first(out, name, day.now, answer);
-    let after = dropped.day;
-    let left = dropped.rows;
-    Answered {
-        day: after,
-        rows: left,
+    Removed {
         length,
-        from: 0,
-        to: 0,
-    }
-}
-
-// Carries any command out as `step` does; a drop on a day asks no question that would pass. A booking on a day is `step_book`'s.
-pub fn step_rows(
-    file: &[u8],
-    c: Catalogue,
-    day: Day,
-    rows: [Booking; MAX_BOOKINGS],
-    command: Command,
-    opens: &mut [u64],
-    reserves: &mut [u64],
-    helds: &mut [u64],
-    out: &mut [u8],
-) -> Answered
-    requires { ⌜ (outputBytes ≤ length (now out)) × Ready (now file) c (sessionAt day rows (now opens) (now reserves) (now helds)) ⌝ }
-    ensures { λ r. ⌜ AnswersOnly (now (file .entry)) (sessionAt day rows (now (opens .entry)) (now (reserves .entry)) (now (helds .entry))) command (now (out .entry)) r (now (opens .exit)) (now (reserves .exit)) (now (helds .exit)) (now (out .exit)) ⌝ }
-{
-    if day.rounds == 0 {
-        return step_any(file, day, rows, command, opens, reserves, helds, out);
-    }
-    match command {
-        Command::Book(_) => step_any(file, day, rows, command, opens, reserves, helds, out),
-        Command::Drop(name) => step_drop(file, c, day, rows, name, opens, reserves, helds, out),
-        Command::Open(_, _, _) => {
-            step_any(file, day, rows, command, opens, reserves, helds, out)
-        }
-        Command::Play => step_any(file, day, rows, command, opens, reserves, helds, out),
-        Command::Bad => step_any(file, day, rows, command, opens, reserves, helds, out),
+        count: dropped.count,
+        place: dropped.place,
     }
 }

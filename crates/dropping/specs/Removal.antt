@@ -1,6 +1,7 @@
 -- A record taken out of the list. Document 01, 'A day at the desk': "A drop removes its record, closes the gap, and zeroes the
 -- place freed."
 use mathlib.Core.Path.{_≡_}
+use mathlib.Core.Bool.{cond}
 use mathlib.Core.List.{List, _∷_, _++_}
 use Prim.Native.Nat.{ℕ, suc, _≤_, _<_}
 use lib.ListN.{take, drop}
@@ -17,6 +18,10 @@ others i n rows = take i rows ++ slice (suc i) n rows
 -- and the places after them: the one freed, and those from n on as they were
 abbrev pub closed : ℕ → ℕ → List Booking → List Booking
 closed i n rows = others i n rows ++ (noBooking ∷ drop n rows)
+
+-- and all places, where i is one of the n, or all as they were
+abbrev pub left : ℕ → ℕ → List Booking → List Booking
+left i n rows = cond (ltb i n) (closed i n rows) rows
 
 -- i is the place of the first of n rows with the name, or n
 pub record Position (name : ℕ) (rows : List Booking) (n i : ℕ) : Type 0 where

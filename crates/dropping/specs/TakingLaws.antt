@@ -126,25 +126,18 @@ module _ (x : Stream) (l : List ℕ) where
       → putMid (x .start) (length l - x .start) l p ≡ lowered (λ t. cond (openIn t x) v 0) l
   flat-back v p e = lowered-back (x .start) (replicate (lengthOf x) v) l p (λ t. cond (openIn t x) v 0) (flat-share x v) e
 
--- the stream's profile, written to an array of m words
-module _ (f : List ℕ) (x : Stream) (m : ℕ) (good : Playable f x) (room : lengthOf x ≤ m) where
-  pub profile-asks : InRange f (x .at) (x .rounds) (x .prefetch) (x .reserve) × (lengthOf x ≤ length {A = ℕ} (replicate m 0))
-  profile-asks = (
-    record { stored = good .stored; prefetch = good .bounded .prefetch; reserve = good .bounded .reserve },
-    omega (arith, length-replicate m zero),
-  )
+-- the stream's profile, written to a list that is long enough, whatever stood there
+module _ (f : List ℕ) (x : Stream) (before : List ℕ) (good : Playable f x) (room : lengthOf x ≤ length before) where
+  pub profile-asks : InRange f (x .at) (x .rounds) (x .prefetch) (x .reserve) × (lengthOf x ≤ length before)
+  profile-asks = (record { stored = good .stored; prefetch = good .bounded .prefetch; reserve = good .bounded .reserve }, room)
 
-  module _ (profile : List ℕ) (made : profile ≡ profileOf f x ++ drop (lengthOf x) (replicate m 0)) where
+  module _ (profile : List ℕ) (made : profile ≡ profileOf f x ++ drop (lengthOf x) before) where
     profile-taken : take (lengthOf x) profile ≡ profileOf f x
-    profile-taken = written-places f (x .at) (x .rounds) (x .prefetch) (x .reserve) (replicate m 0) profile made
+    profile-taken = written-places f (x .at) (x .rounds) (x .prefetch) (x .reserve) before profile made
 
     pub profile-long : lengthOf x ≤ length profile
     profile-long =
-        omega (
-          arith,
-          written-length f (x .at) (x .rounds) (x .prefetch) (x .reserve) (replicate m 0) profile made (profile-asks .1),
-          length-replicate m zero,
-        )
+        omega (arith, written-length f (x .at) (x .rounds) (x .prefetch) (x .reserve) before profile made room)
 
     profile-at : (i : ℕ) → i < lengthOf x → getD profile i 0 ≡ holdsIn f (x .start + i) x
     profile-at i h =

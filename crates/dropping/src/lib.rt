@@ -2,12 +2,14 @@
 pub mod removal;
 mod taking;
 
-use crate::removal::close_gap;
 use crate::removal::position;
+use crate::removal::without;
 use crate::taking::take_stream;
 use films::catalogue::catalogue;
 use films::types::Catalogue;
 use limits::bounds::MAX_BOOKINGS;
+use limits::bounds::MAX_PREFETCH;
+use limits::bounds::MAX_ROUNDS;
 use limits::refusals::NO_NAME;
 use load::stream::stream_of;
 use model::Answer;
@@ -20,7 +22,7 @@ use table::streams::TABLE_WORDS;
 use table::tabulate::tabulate;
 ghost use mathlib.Core.Path.{_≡_};
 ghost use mathlib.Core.List.{List};
-ghost use Prim.Native.Nat.{ℕ, min};
+ghost use Prim.Native.Nat.{ℕ, _≤_, min};
 ghost use lib.ListN.{length, take};
 ghost use Rattle.laws.specs.Questions.{refusal};
 ghost use Rattle.films.specs.Catalogue.{catalogueOf};
@@ -29,8 +31,20 @@ ghost use Rattle.questions.specs.Given.{settingAt};
 ghost use Rattle.questions.specs.Numbers.{standingAsks};
 ghost use Rattle.questions.specs.SheetOf.{SheetKept};
 ghost use Rattle.sheet.specs.Memory.{Settled};
-ghost use Rattle.dropping.specs.Contract.{Drops};
+ghost use Rattle.dropping.specs.Contract.{Drops, DropsAt};
 ghost use Rattle.dropping.specs.Standing.{Stands};
+ghost use Rattle.dropping.specs.Taking.{maxLength};
+
+// rounds that a stream is open, at most
+const MAX_LENGTH: usize = MAX_PREFETCH as usize + MAX_ROUNDS;
+
+// What a drop answers, how many bookings the day counts after it, and the place of the record that is to be taken out; where it is
+// refused, their number.
+pub struct DroppedAt {
+    pub answer: Answer,
+    pub count: u64,
+    pub place: usize,
+}
 
 // What a drop answers, and the day and the records after it.
 pub struct DropOutcome {
@@ -40,7 +54,43 @@ pub struct DropOutcome {
 }
 
 // The drop where the file's questions, 14, 15, 11 and 16 have passed and the sheet is that of the standing bookings already, so that only
-// the dropped one's stream is taken out; c is the file's catalogue.
+// the dropped one's stream is taken out; c is the file's catalogue. The record is the caller's to take out, so that the records' places
+// are not copied here. `profile` is workspace, whatever stands there.
+pub fn drop_at(
+    file: &[u8],
+    c: Catalogue,
+    day: Day,
+    rows: [Booking; MAX_BOOKINGS],
+    places: u64,
+    name: u32,
+    profile: &mut [u64],
+    opens: &mut [u64],
+    reserves: &mut [u64],
+    helds: &mut [u64],
+) -> DroppedAt
+    requires { ⌜ (c ≡ catalogueOf (now file)) × (refusal (standingAsks (now file) day rows places (length (now opens)) (length (now reserves)) (length (now helds))) ≡ 0) × SheetKept (settingAt (now file) day) (take (day .count) rows) (now opens) (now reserves) (now helds) × (maxLength ≤ length (now profile)) ⌝ }
+    ensures { λ r. ⌜ DropsAt (settingAt (now (file .entry)) day) (stateOf day rows places (now (opens .entry)) (now (reserves .entry)) (now (helds .entry))) day rows name r (now (opens .exit)) (now (reserves .exit)) (now (helds .exit)) ⌝ }
+{
+    let count = day.count as usize;
+    let i = position(rows, count, name);
+    if i == count {
+        return DroppedAt {
+            answer: Answer::Refused(NO_NAME),
+            count: day.count,
+            place: i,
+        };
+    }
+    let b = rows[i];
+    let x = stream_of(c, b);
+    take_stream(file, x, profile, opens, reserves, helds);
+    DroppedAt {
+        answer: Answer::Dropped,
+        count: day.count - 1,
+        place: i,
+    }
+}
+
+// `drop_at` with the record taken out.
 pub fn drop_kept(
     file: &[u8],
     c: Catalogue,
@@ -55,28 +105,30 @@ pub fn drop_kept(
     requires { ⌜ (c ≡ catalogueOf (now file)) × (refusal (standingAsks (now file) day rows places (length (now opens)) (length (now reserves)) (length (now helds))) ≡ 0) × SheetKept (settingAt (now file) day) (take (day .count) rows) (now opens) (now reserves) (now helds) ⌝ }
     ensures { λ r. ⌜ Drops (settingAt (now (file .entry)) day) (stateOf day rows places (now (opens .entry)) (now (reserves .entry)) (now (helds .entry))) name r (now (opens .exit)) (now (reserves .exit)) (now (helds .exit)) ⌝ }
 {
-    let count = day.count as usize;
-    let i = position(rows, count, name);
-    if i == count {
-        return DropOutcome {
-            answer: Answer::Refused(NO_NAME),
-            day,
-            rows,
-        };
-    }
-    let b = rows[i];
-    let x = stream_of(c, b);
-    take_stream(file, x, opens, reserves, helds);
-    let rest = close_gap(rows, count, i);
+    let mut profile = [0u64; MAX_LENGTH];
+    let dropped = drop_at(
+        file,
+        c,
+        day,
+        rows,
+        places,
+        name,
+        &mut profile,
+        opens,
+        reserves,
+        helds,
+    );
+    let answer = dropped.answer;
+    let rest = without(rows, day.count as usize, dropped.place);
     let next = Day {
         rounds: day.rounds,
         disk: day.disk,
         memory: day.memory,
         now: day.now,
-        count: day.count - 1,
+        count: dropped.count,
     };
     DropOutcome {
-        answer: Answer::Dropped,
+        answer,
         day: next,
         rows: rest,
     }

@@ -4,7 +4,7 @@ use model::Booking;
 ghost use mathlib.Core.Path.{_≡_};
 ghost use Prim.Native.Nat.{_≤_, _<_};
 ghost use Rattle.limits.specs.Bounds.{maxBookings};
-ghost use Rattle.dropping.specs.Removal.{Position, closed};
+ghost use Rattle.dropping.specs.Removal.{Position, closed, left};
 
 // The place of the first of the first `count` records that bears the name; `count` where none does.
 pub fn position(rows: [Booking; MAX_BOOKINGS], count: usize, name: u32) -> usize
@@ -43,4 +43,15 @@ pub fn close_gap(rows: [Booking; MAX_BOOKINGS], count: usize, i: usize) -> [Book
         cabs: 0,
     };
     out
+}
+
+// The records without the one at i, as `close_gap` leaves them; all of them where i is `count`.
+pub fn without(rows: [Booking; MAX_BOOKINGS], count: usize, i: usize) -> [Booking; MAX_BOOKINGS]
+    requires { ⌜ count ≤ maxBookings ⌝ }
+    ensures { λ r. ⌜ r ≡ left i count rows ⌝ }
+{
+    if i < count {
+        return close_gap(rows, count, i);
+    }
+    rows
 }

@@ -1,6 +1,4 @@
 // A stream taken out of the day sheet.
-use limits::bounds::MAX_PREFETCH;
-use limits::bounds::MAX_ROUNDS;
 use load::stream::Stream;
 ghost use mathlib.Core.Path.{_≡_};
 ghost use mathlib.Core.Bool.{cond};
@@ -8,10 +6,7 @@ ghost use Prim.Native.Nat.{ℕ, _≤_, _<_};
 ghost use lib.ListN.{length, getD, take, replicate};
 ghost use Rattle.load.specs.Basic.{Bounded, Playable};
 ghost use Rattle.load.specs.Stream.{endOf, openIn, holdsIn};
-ghost use Rattle.dropping.specs.Taking.{less, AtLeast, lowered, Takes, Taken};
-
-// rounds that a stream is open, at most
-const MAX_LENGTH: usize = MAX_PREFETCH as usize + MAX_ROUNDS;
+ghost use Rattle.dropping.specs.Taking.{maxLength, less, AtLeast, lowered, Takes, Taken};
 
 // Takes v from each of the first n places.
 fn take_each(part: &mut [u64], n: usize, v: u64)
@@ -46,30 +41,30 @@ fn take_flat(list: &mut [u64], x: Stream, v: u64)
     take_each(&mut list[start..], x.prefetch + x.rounds, v);
 }
 
-// Takes what the stream holds from the place of each round.
-pub fn take_held(file: &[u8], x: Stream, helds: &mut [u64])
-    requires { ⌜ Playable (now file) x × (endOf x ≤ length (now helds)) × AtLeast (λ t. holdsIn (now file) t x) (now helds) ⌝ }
+// Takes what the stream holds from the place of each round. `profile` is workspace, whatever stands there.
+pub fn take_held(file: &[u8], x: Stream, profile: &mut [u64], helds: &mut [u64])
+    requires { ⌜ Playable (now file) x × (endOf x ≤ length (now helds)) × AtLeast (λ t. holdsIn (now file) t x) (now helds) × (maxLength ≤ length (now profile)) ⌝ }
     ensures { λ _. ⌜ now (helds .exit) ≡ lowered (λ t. holdsIn (now (file .entry)) t x) (now (helds .entry)) ⌝ }
 {
     let start = x.start;
     let n = x.prefetch + x.rounds;
-    let mut profile = [0u64; MAX_LENGTH];
-    retrieval::write_profile(&mut profile, file, x.at, x.rounds, x.prefetch, x.reserve);
-    take_shares(&mut helds[start..], n, &profile);
+    retrieval::write_profile(profile, file, x.at, x.rounds, x.prefetch, x.reserve);
+    take_shares(&mut helds[start..], n, profile);
 }
 
-// Takes the stream out of the sheet that it is part of.
+// Takes the stream out of the sheet that it is part of. `profile` is workspace, whatever stands there.
 pub fn take_stream(
     file: &[u8],
     x: Stream,
+    profile: &mut [u64],
     opens: &mut [u64],
     reserves: &mut [u64],
     helds: &mut [u64],
 )
-    requires { ⌜ Takes (now file) x (now opens) (now reserves) (now helds) ⌝ }
+    requires { ⌜ Takes (now file) x (now opens) (now reserves) (now helds) × (maxLength ≤ length (now profile)) ⌝ }
     ensures { λ _. ⌜ Taken (now (file .entry)) x (now (opens .entry)) (now (reserves .entry)) (now (helds .entry)) (now (opens .exit)) (now (reserves .exit)) (now (helds .exit)) ⌝ }
 {
     take_flat(opens, x, 1);
     take_flat(reserves, x, x.reserve);
-    take_held(file, x, helds);
+    take_held(file, x, profile, helds);
 }

@@ -249,13 +249,13 @@ pub fn step_ahead(
     ensures { λ r. ⌜ Answers (now (file .entry)) c day rows (now (opens .entry)) (now (reserves .entry)) (now (helds .entry)) command (now (out .entry)) r (now (table .exit)) (now (ahead .exit)) (now (opens .exit)) (now (reserves .exit)) (now (helds .exit)) (now (out .exit)) ⌝ }
 {
     if !plays_today(day, command) {
-        return step_rows(file, c, day, rows, command, opens, reserves, helds, out);
+        return step_rows(file, day, rows, command, opens, reserves, helds, out);
     }
     let to = prepare(file, c, day, rows, table, ahead);
     let from = day.now as usize;
     let played = play_ahead(file, day, table, ahead, from, to, words, out);
     if played.length == 0 {
-        return step_rows(file, c, day, rows, command, opens, reserves, helds, out);
+        return step_rows(file, day, rows, command, opens, reserves, helds, out);
     }
     let after = at_round(day, played.now);
     Answered {

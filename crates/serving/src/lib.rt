@@ -2,10 +2,12 @@
 use answering::Order;
 use answering::order_of;
 use answering::step_book;
+use answering::step_drop;
 use commands::parse;
 use console::OUTPUT_BYTES;
 use console::Session;
 use console::step;
+use dropping::removal::without;
 use films::types::Catalogue;
 use input::next_line;
 use rounds::KEPT_WORDS;
@@ -86,6 +88,27 @@ pub fn serve_bytes(
             rows[place] = booking;
             day.count = booked.count;
             used += booked.length;
+            from = 0;
+            to = 0;
+            continue;
+        }
+        if let Order::Unwanted(name) = order {
+            let dropped = step_drop(
+                file,
+                c,
+                day,
+                rows,
+                name,
+                &mut ahead,
+                opens,
+                reserves,
+                helds,
+                &mut out[used..],
+            );
+            let left = without(rows, day.count as usize, dropped.place);
+            rows = left;
+            day.count = dropped.count;
+            used += dropped.length;
             from = 0;
             to = 0;
             continue;

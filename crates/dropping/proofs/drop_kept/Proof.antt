@@ -1,69 +1,22 @@
--- `dropping::drop_kept` meets its contract: a name that is not there leaves everything; else the booking's stream is part of the sheet,
--- and taken out of it leaves the sheet of the rest. Assumes nothing.
-use mathlib.Core.Path.{refl, sym}
+-- `dropping::drop_kept` meets its contract: what `drop_at` tells, with the record taken out. Assumes nothing.
+use mathlib.Core.Path.{_≡_, refl, sym, _∙_}
 use native.Mathlib.Omega.{arith}
-use Rattle.dropping.specs.Laws.{stands, name-refused, accepted-drops}
-use Rattle.dropping.specs.KeptLaws.{kept-takes, taken-sheet}
+use Rattle.dropping.specs.Laws.{stands}
 use borrow.Author.Needs.{needs}
 use Rattle.dropping.proofs.drop_kept.Statement.{statement}
 use Rattle.dropping.proofs.drop_kept.Tie as tie
 
--- where the name was looked for
-abbrev start : tie.After-position → tie.Start
-start at = at .before .before .before .before .before
+slice-aggregate-drop-at : tie.Need-slice-aggregate-drop-at
+slice-aggregate-drop-at c = search needs
 
-position-requires : tie.Need-position-requires
-position-requires c κs =
-    let start = c .before .before .before .before in
+drop-at-requires : tie.Need-drop-at-requires
+drop-at-requires c κs = search needs
+
+without-requires : tie.Need-without-requires
+without-requires c κs =
+    let start = c .before .before .before .before .before .before .before .before .before .before .before .before .before .before .before .before in
     let a = start .args in
-    stands (a .file .now) (a .day) (a .t4) (a .places) (a .opens .now) (a .reserves .now) (a .helds .now) 0 (sym (start .pre .1)) refl .few
-
-returns : tie.Need-returns
-returns c =
-    let at = c .before in
-    let a = start at .args in
-    name-refused (a .file .now) (a .day) (a .t4) (a .places) (a .opens .now) (a .reserves .now) (a .helds .now) 0 (sym (start at .pre .1)) (a .name) refl _
-    (at .position .result) (at .position .ensures) (c .if1 .taken) refl refl refl
-
-mul-b : tie.Need-mul-b
-mul-b c =
-    let at = c .before in
-    let a = start at .args in
-    let held = stands (a .file .now) (a .day) (a .t4) (a .places) (a .opens .now) (a .reserves .now) (a .helds .now) 0 (sym (start at .pre .1)) refl in
-    omega (arith, at .position .ensures .within, c .if1 .left, held .few)
-
-array-copy-out-b : tie.Need-array-copy-out-b
-array-copy-out-b c =
-    let at = c .before in
-    let a = start at .args in
-    let held = stands (a .file .now) (a .day) (a .t4) (a .places) (a .opens .now) (a .reserves .now) (a .helds .now) 0 (sym (start at .pre .1)) refl in
-    omega (arith, at .position .ensures .within, c .if1 .left, held .few)
-
-stream-of-requires : tie.Need-stream-of-requires
-stream-of-requires c κs = search needs
-
-take-stream-requires : tie.Need-take-stream-requires
-take-stream-requires c κs =
-    let made = c .before .before .before in
-    let found = made .before .before in
-    let at = found .before in
-    let a = start at .args in
-    let held = stands (a .file .now) (a .day) (a .t4) (a .places) (a .opens .now) (a .reserves .now) (a .helds .now) 0 (sym (start at .pre .1)) refl in
-    kept-takes (a .file .now) (a .day) (a .t4) (a .places) (a .opens .now) (a .reserves .now) (a .helds .now) (start at .pre .1) (start at .pre .2)
-    (omega (arith, held .few, start at)) (at .position .result) (omega (arith, at .position .ensures .within, found .if1 .left)) (a .c) (start at .pre .0)
-    (made .stream-of .result) (made .stream-of .ensures)
-
-close-gap-requires : tie.Need-close-gap-requires
-close-gap-requires c κs =
-    let taken = c .before .before .before .before .before .before in
-    let found = taken .before .before .before .before .before .before in
-    let at = found .before in
-    let a = start at .args in
-    let held = stands (a .file .now) (a .day) (a .t4) (a .places) (a .opens .now) (a .reserves .now) (a .helds .now) 0 (sym (start at .pre .1)) refl in
-    (omega (arith, at .position .ensures .within, found .if1 .left), held .few)
-
-sub-t32 : tie.Need-sub-t32
-sub-t32 c = search needs
+    stands (a .file .now) (a .day) (a .rows) (a .places) (a .opens .now) (a .reserves .now) (a .helds .now) 0 (sym (start .pre .1)) refl .few
 
 same-length : tie.Need-same-length
 same-length c = search needs
@@ -74,35 +27,27 @@ same-length-2 c = search needs
 same-length-3 : tie.Need-same-length-3
 same-length-3 c = search needs
 
-returns-2 : tie.Need-returns-2
-returns-2 c =
-    let closed = c .before in
-    let taken = closed .before .before .before .before .before .before .before in
-    let made = taken .before .before .before .before in
-    let found = made .before .before in
-    let at = found .before in
-    let a = start at .args in
-    let held = stands (a .file .now) (a .day) (a .t4) (a .places) (a .opens .now) (a .reserves .now) (a .helds .now) 0 (sym (start at .pre .1)) refl in
-    accepted-drops (a .file .now) (a .day) (a .t4) (a .places) (a .opens .now) (a .reserves .now) (a .helds .now) 0 (sym (start at .pre .1)) (a .name) refl
-    (at .position .result) (at .position .ensures) (found .if1 .left) (omega (arith, held .few, start at)) _ _ _ _ refl refl
-    (closed .close-gap .ensures)
-    (taken-sheet (a .file .now) (a .day) (a .t4) (a .places) (a .opens .now) (a .reserves .now) (a .helds .now) (start at .pre .1) (start at .pre .2)
-    (omega (arith, held .few, start at)) (at .position .result) (omega (arith, at .position .ensures .within, found .if1 .left)) (a .c) (start at .pre .0)
-    (made .stream-of .result) (made .stream-of .ensures) (closed .close-gap .result) _ _ _ (closed .close-gap .ensures) (taken .take-stream .ensures))
+returns : tie.Need-returns
+returns c =
+    let at = c .before .before .before .before .before .before .before .before .drop-at in
+    let g = at .ensures in
+    record {
+      answer = g .answer;
+      day = g .day;
+      rows = c .without .ensures ∙ g .rows;
+      opens = g .opens;
+      reserves = g .reserves;
+      helds = g .helds;
+    }
 
 pub drop-kept-spec : {M : Type 1} → statement M
 drop-kept-spec =
     tie.close
     (tie.spec
-    position-requires
-    returns
-    mul-b
-    array-copy-out-b
-    stream-of-requires
-    take-stream-requires
-    close-gap-requires
-    sub-t32
+    slice-aggregate-drop-at
+    drop-at-requires
+    without-requires
     same-length
     same-length-2
     same-length-3
-    returns-2)
+    returns)

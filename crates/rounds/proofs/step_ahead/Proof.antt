@@ -54,7 +54,7 @@ play-ahead-requires c κs =
 step-rows-requires-2 : tie.Need-step-rows-requires-2
 step-rows-requires-2 c κs =
     let start = c .before .before .before .before .before .before .before .before .before .before .before .before .before .before .before .before .before .before .before .before .before .before .before .before .before .before .before .before .before .before .before .before in
-    (omega (arith, start .pre .0, c .before .before .before .before .before .before .before .before .before .before .play-ahead .kept .1 .1 .1 .1 .1 .1 .1 .0), start .pre .2)
+    omega (arith, start .pre .0, c .before .before .before .before .before .before .before .before .before .before .play-ahead .kept .1 .1 .1 .1 .1 .1 .1 .0)
 
 same-length-5 : tie.Need-same-length-5
 same-length-5 c = c .before .before .before .before .before .before .before .before .before .before .before .before .before .before .before .before .before .before .before .before .before .before .before .before .before .before .before .before .prepare .kept .1 .1 .1 .1 .0

@@ -2,16 +2,19 @@
 -- for the session that they leave (`Known`). The measure is what is left of the bytes. Assumes nothing.
 use Prim.Native.Nat.{_+_, _-_, _≤_}
 use mathlib.Core.Path.{_≡_, refl, sym, ap, _∙_}
+use mathlib.Core.List.{List}
 use native.Mathlib.Omega.{arith}
 use lib.ListN.{length, set, take}
 use borrow.Author.Needs.{needs}
 use borrow.Author.Tests.{not-true, not-false, leb-true, leb-false}
 use borrow.Rule.Slice.PartMut.{midOf, putMid}
 use Rattle.laws.specs.Parts.{tail-length, tail-back}
+use Rattle.model.specs.declared.Booking.{Booking}
 use Rattle.text.specs.Digits.{outputBytes}
 use Rattle.commands.specs.declared.Command.{Command}
 use Rattle.console.specs.Contract.{stepOf}
-use Rattle.answering.specs.Contract.{sessionAt, counting}
+use Rattle.dropping.specs.Contract.{counting}
+use Rattle.answering.specs.Contract.{sessionAt}
 use Rattle.rounds.specs.Contract.{atRound, Known}
 use Rattle.serving.specs.Turns.{Going, going-first, turn-on, turn-count, turn-line, back-length, back-front}
 use Rattle.serving.proofs.serve_bytes.Statement.{statement}
@@ -100,7 +103,7 @@ step-book-requires : tie.Need-step-book-requires Inv-loop μ-loop
 step-book-requires c κs =
     let l = c .before .before .before .before .before .before .before .before .before .before .before .before .before .before .before .before .before .before .loop in
     let at = c .before .before .before .before .before .before .before .order .given in
-    let wanted = c .before .before .before .before .before .before .before .before .before .order-of .ensures (at .0 .0) (at .1) in
+    let wanted = c .before .before .before .before .before .before .before .before .before .order-of .ensures .0 (at .0 .0) (at .1) in
     let left = leb-true outputBytes (length (l .out) - l .used) (c .before .before .before .before .before .before .before .before .before .before .before .before .before .before .before .before .if1 .taken) in
     (omega (arith, left, tail-length (l .used) (l .out)), wanted .1, l .inv .5 .ready, omega (arith, l .inv .6), omega (arith, l .inv .7))
 
@@ -117,7 +120,7 @@ add-used c =
     let a = c .before .before .before .before .before .before .before .before .before .before .before .before .before .before .before .before .before .before .before .before .before .before .before .before .before .before .before .before .before .before .before .before .before .before .before .before .before .before .before .before .before .args in
     let nl = c .before .before .before .before .before .before .before .before .before .before .before .before .before .before .before .before .before .before .before .before .before .before .before .before .before .before .before .next-line in
     let at = c .before .before .before .before .before .before .before .before .before .before .before .before .before .before .before .before .before .before .before .before .order .given in
-    let wanted = c .before .before .before .before .before .before .before .before .before .before .before .before .before .before .before .before .before .before .before .before .before .before .order-of .ensures (at .0 .0) (at .1) in
+    let wanted = c .before .before .before .before .before .before .before .before .before .before .before .before .before .before .before .before .before .before .before .before .before .before .order-of .ensures .0 (at .0 .0) (at .1) in
     let booked = c .before .before .before .before .before .before .before .before .before .before .before .before .step-book in
     let left = leb-true outputBytes (length (l .out) - l .used) (c .before .before .before .before .before .before .before .before .before .before .before .before .before .before .before .before .before .before .before .before .before .before .before .before .before .before .before .before .before .if1 .taken) in
     let part = midOf (l .used) (length (l .out) - l .used) (l .out) in
@@ -139,7 +142,7 @@ loop-again-2 c =
     let a = c .before .before .before .before .before .before .before .before .before .before .before .before .before .before .before .before .before .before .before .before .before .before .before .before .before .before .before .before .before .before .before .before .before .before .before .before .before .before .before .before .before .args in
     let nl = c .before .before .before .before .before .before .before .before .before .before .before .before .before .before .before .before .before .before .before .before .before .before .before .before .before .before .before .next-line in
     let at = c .before .before .before .before .before .before .before .before .before .before .before .before .before .before .before .before .before .before .before .before .order .given in
-    let wanted = c .before .before .before .before .before .before .before .before .before .before .before .before .before .before .before .before .before .before .before .before .before .before .order-of .ensures (at .0 .0) (at .1) in
+    let wanted = c .before .before .before .before .before .before .before .before .before .before .before .before .before .before .before .before .before .before .before .before .before .before .order-of .ensures .0 (at .0 .0) (at .1) in
     let booked = c .before .before .before .before .before .before .before .before .before .before .before .before .step-book in
     let left = leb-true outputBytes (length (l .out) - l .used) (c .before .before .before .before .before .before .before .before .before .before .before .before .before .before .before .before .before .before .before .before .before .before .before .before .before .before .before .before .before .if1 .taken) in
     let part = midOf (l .used) (length (l .out) - l .used) (l .out) in
@@ -167,8 +170,98 @@ loop-again-2 c =
       record { looked = λ h. absurd (omega arith); tabled = λ h. absurd (omega arith) },
     )
 
-enum-told : tie.Need-enum-told Inv-loop μ-loop
-enum-told c = search needs
+enum-known-order-2 : tie.Need-enum-known-order-2 Inv-loop μ-loop
+enum-known-order-2 c = search needs
+
+slice-aggregate-step-drop : tie.Need-slice-aggregate-step-drop Inv-loop μ-loop
+slice-aggregate-step-drop c = sym (c .before .before .before .before .before .before .before .before .before .before .before .before .before .before .loop .inv .7)
+
+sub-step-drop : tie.Need-sub-step-drop Inv-loop μ-loop
+sub-step-drop c = omega (arith, c .before .before .before .before .before .before .before .before .before .before .before .before .before .before .before .before .before .loop .inv .5 .room)
+
+part-step-drop-start : tie.Need-part-step-drop-start Inv-loop μ-loop
+part-step-drop-start c = omega (arith, c .before .before .before .before .before .before .before .before .before .before .before .before .before .before .before .before .before .loop .inv .5 .room)
+
+part-step-drop-end : tie.Need-part-step-drop-end Inv-loop μ-loop
+part-step-drop-end c = omega (arith, c .before .before .before .before .before .before .before .before .before .before .before .before .before .before .before .before .before .loop .inv .5 .room)
+
+step-drop-requires : tie.Need-step-drop-requires Inv-loop μ-loop
+step-drop-requires c κs =
+    let l = c .before .before .before .before .before .before .before .before .before .before .before .before .before .before .before .before .before .before .loop in
+    let at = c .before .before .before .before .before .before .order2 .given in
+    let wanted = c .before .before .before .before .before .before .before .before .before .order-of .ensures .1 (at .0 .0) (at .1) in
+    let left = leb-true outputBytes (length (l .out) - l .used) (c .before .before .before .before .before .before .before .before .before .before .before .before .before .before .before .before .if1 .taken) in
+    (omega (arith, left, tail-length (l .used) (l .out)), wanted .1, l .inv .5 .ready, omega (arith, l .inv .7))
+
+without-requires : tie.Need-without-requires Inv-loop μ-loop
+without-requires c κs = c .before .before .before .before .before .before .before .before .before .step-drop .ensures .few
+
+add-used-2 : tie.Need-add-used-2 Inv-loop μ-loop
+add-used-2 c =
+    let l = c .before .before .before .before .before .before .before .before .before .before .before .before .before .before .before .before .before .before .before .before .before .before .before .before .before .before .before .before .before .before .loop in
+    let g = l .inv .5 in
+    let a = c .before .before .before .before .before .before .before .before .before .before .before .before .before .before .before .before .before .before .before .before .before .before .before .before .before .before .before .before .before .before .before .before .before .before .before .before .before .before .before .before .args in
+    let nl = c .before .before .before .before .before .before .before .before .before .before .before .before .before .before .before .before .before .before .before .before .before .before .before .before .before .before .next-line in
+    let at = c .before .before .before .before .before .before .before .before .before .before .before .before .before .before .before .before .before .before .order2 .given in
+    let wanted = c .before .before .before .before .before .before .before .before .before .before .before .before .before .before .before .before .before .before .before .before .before .order-of .ensures .1 (at .0 .0) (at .1) in
+    let dropped = c .before .before .before .before .before .before .before .before .before .before .before .step-drop in
+    let rest = c .before .without in
+    let rows = rest .result in
+    let left = leb-true outputBytes (length (l .out) - l .used) (c .before .before .before .before .before .before .before .before .before .before .before .before .before .before .before .before .before .before .before .before .before .before .before .before .before .before .before .before .if1 .taken) in
+    let part = midOf (l .used) (length (l .out) - l .used) (l .out) in
+    let enough : outputBytes ≤ length part = omega (arith, left, tail-length (l .used) (l .out)) in
+    let answer = dropped .last .1 .1 .1 .1 .1 .1 .1 .1 .1 .0 in
+    let took =
+    ap (λ (r : List Booking). record { state = sessionAt (counting (l .day) (dropped .result .count)) r (dropped .last .1 .1 .1 .1 .1 .1 .0) (dropped .last .1 .1 .1 .1 .1 .1 .1 .0) (dropped .last .1 .1 .1 .1 .1 .1 .1 .1 .0); buffer = answer; count = dropped .result .length }) (rest .ensures)
+    ∙ dropped .ensures .step
+    ∙ ap (λ (k : Command). stepOf (a .file .now) (sessionAt (l .day) (l .rows) (l .opens) (l .reserves) (l .helds)) k part) (sym (wanted .0)) in
+    let few = turn-count (a .file .now) (a .c) (sessionAt (a .s .day) (a .s .rows) (a .opens .now) (a .reserves .now) (a .helds .now)) (take (a .held) (a .line .now)) (a .bytes .now) (l .line) (l .out) (l .opens) (l .reserves) (l .helds) (l .day) (l .rows) (l .kept) (l .at) (l .used) g (nl .result) (nl .last .0) (nl .ensures)
+    (l .out) refl part enough (counting (l .day) (dropped .result .count)) rows
+    (dropped .last .1 .1 .1 .1 .1 .1 .0) (dropped .last .1 .1 .1 .1 .1 .1 .1 .0) (dropped .last .1 .1 .1 .1 .1 .1 .1 .1 .0) answer (dropped .result .length) took in
+    record { fits = omega (arith, few, left, g .room, l .inv .4, c .before .before .before .before .before .before .before .before .before .before .before .before .before .before .before .before .before .before .before .before .before .before .before .before .before .before .before .before .before .before .before .before .before .before .before .before .before .before .before .before .good) }
+
+loop-less-3 : tie.Need-loop-less-3 Inv-loop μ-loop
+loop-less-3 c = let took = c .before .before .before .before .before .before .before .before .before .before .before .before .before .before .before .before .before .before .before .before .before .before .before .before .before .before .next-line .ensures in omega (arith, took .moved, took .within)
+
+loop-again-3 : tie.Need-loop-again-3 Inv-loop μ-loop
+loop-again-3 c =
+    let l = c .before .before .before .before .before .before .before .before .before .before .before .before .before .before .before .before .before .before .before .before .before .before .before .before .before .before .before .before .before .before .loop in
+    let g = l .inv .5 in
+    let a = c .before .before .before .before .before .before .before .before .before .before .before .before .before .before .before .before .before .before .before .before .before .before .before .before .before .before .before .before .before .before .before .before .before .before .before .before .before .before .before .before .args in
+    let nl = c .before .before .before .before .before .before .before .before .before .before .before .before .before .before .before .before .before .before .before .before .before .before .before .before .before .before .next-line in
+    let at = c .before .before .before .before .before .before .before .before .before .before .before .before .before .before .before .before .before .before .order2 .given in
+    let wanted = c .before .before .before .before .before .before .before .before .before .before .before .before .before .before .before .before .before .before .before .before .before .order-of .ensures .1 (at .0 .0) (at .1) in
+    let dropped = c .before .before .before .before .before .before .before .before .before .before .before .step-drop in
+    let rest = c .before .without in
+    let rows = rest .result in
+    let left = leb-true outputBytes (length (l .out) - l .used) (c .before .before .before .before .before .before .before .before .before .before .before .before .before .before .before .before .before .before .before .before .before .before .before .before .before .before .before .before .if1 .taken) in
+    let part = midOf (l .used) (length (l .out) - l .used) (l .out) in
+    let enough : outputBytes ≤ length part = omega (arith, left, tail-length (l .used) (l .out)) in
+    let answer = dropped .last .1 .1 .1 .1 .1 .1 .1 .1 .1 .0 in
+    let took =
+    ap (λ (r : List Booking). record { state = sessionAt (counting (l .day) (dropped .result .count)) r (dropped .last .1 .1 .1 .1 .1 .1 .0) (dropped .last .1 .1 .1 .1 .1 .1 .1 .0) (dropped .last .1 .1 .1 .1 .1 .1 .1 .1 .0); buffer = answer; count = dropped .result .length }) (rest .ensures)
+    ∙ dropped .ensures .step
+    ∙ ap (λ (k : Command). stepOf (a .file .now) (sessionAt (l .day) (l .rows) (l .opens) (l .reserves) (l .helds)) k part) (sym (wanted .0)) in
+    let few = turn-count (a .file .now) (a .c) (sessionAt (a .s .day) (a .s .rows) (a .opens .now) (a .reserves .now) (a .helds .now)) (take (a .held) (a .line .now)) (a .bytes .now) (l .line) (l .out) (l .opens) (l .reserves) (l .helds) (l .day) (l .rows) (l .kept) (l .at) (l .used) g (nl .result) (nl .last .0) (nl .ensures)
+    (l .out) refl part enough (counting (l .day) (dropped .result .count)) rows
+    (dropped .last .1 .1 .1 .1 .1 .1 .0) (dropped .last .1 .1 .1 .1 .1 .1 .1 .0) (dropped .last .1 .1 .1 .1 .1 .1 .1 .1 .0) answer (dropped .result .length) took in
+    let out′ = putMid (l .used) (length (l .out) - l .used) (l .out) answer in
+    let long : length out′ ≡ length (l .out) = back-length (l .used) (l .out) answer (g .room) (dropped .kept .1 .1 .1 .1 .1 .1 .1 .1 .1 .0) in
+    let fits : l .used + dropped .result .length ≤ length out′ = omega (arith, few, left, long, g .room) in (
+      nl .kept .0 ∙ l .inv .0,
+      dropped .kept .1 .1 .1 .1 .1 .1 .0 ∙ l .inv .1,
+      dropped .kept .1 .1 .1 .1 .1 .1 .1 .0 ∙ l .inv .2,
+      dropped .kept .1 .1 .1 .1 .1 .1 .1 .1 .0 ∙ l .inv .3,
+      long ∙ l .inv .4,
+      turn-line (a .file .now) (a .c) (sessionAt (a .s .day) (a .s .rows) (a .opens .now) (a .reserves .now) (a .helds .now)) (take (a .held) (a .line .now)) (a .bytes .now) (l .line) (l .out) (l .opens) (l .reserves) (l .helds) (l .day) (l .rows) (l .kept) (l .at) (l .used) g (nl .result) (nl .last .0) (nl .ensures)
+          (l .out) refl part enough (counting (l .day) (dropped .result .count)) rows
+          (dropped .last .1 .1 .1 .1 .1 .1 .0) (dropped .last .1 .1 .1 .1 .1 .1 .1 .0) (dropped .last .1 .1 .1 .1 .1 .1 .1 .1 .0) answer (dropped .result .length) took
+          (not-false (nl .result .ended) (c .before .before .before .before .before .before .before .before .before .before .before .before .before .before .before .before .before .before .before .before .before .before .if2 .left)) out′ (tail-back (l .used) (l .out) answer) fits,
+      l .inv .6,
+      dropped .kept .1 .1 .1 .1 .1 .0 ∙ l .inv .7,
+      l .inv .8,
+      record { looked = λ h. absurd (omega arith); tabled = λ h. absurd (omega arith) },
+    )
 
 slice-aggregate-try-ahead : tie.Need-slice-aggregate-try-ahead Inv-loop μ-loop
 slice-aggregate-try-ahead c = sym (c .before .before .before .before .before .before .before .before .before .before .before .before .loop .inv .6)
@@ -208,8 +301,8 @@ try-ahead-requires c κs =
     let left = leb-true outputBytes (length (l .out) - l .used) (c .before .before .before .before .before .before .before .before .before .before .before .before .before .if1 .taken) in
     (omega (arith, left, tail-length (l .used) (l .out)), omega (arith, l .inv .8), l .inv .9 .looked)
 
-add-used-2 : tie.Need-add-used-2 Inv-loop μ-loop
-add-used-2 c =
+add-used-3 : tie.Need-add-used-3 Inv-loop μ-loop
+add-used-3 c =
     let l = c .before .before .before .before .before .before .before .before .before .before .before .before .before .before .before .before .before .before .before .before .before .before .loop in
     let g = l .inv .5 in
     let a = c .before .before .before .before .before .before .before .before .before .before .before .before .before .before .before .before .before .before .before .before .before .before .before .before .before .before .before .before .before .before .before .before .args in
@@ -224,13 +317,13 @@ add-used-2 c =
     (l .out) refl part enough (atRound (l .day) (tried .result .now)) (l .rows) (l .opens) (l .reserves) (l .helds) answer (tried .result .length) took in
     record { fits = omega (arith, few, left, g .room, l .inv .4, c .before .before .before .before .before .before .before .before .before .before .before .before .before .before .before .before .before .before .before .before .before .before .before .before .before .before .before .before .before .before .before .before .good) }
 
-loop-less-3 : tie.Need-loop-less-3 Inv-loop μ-loop
-loop-less-3 c =
+loop-less-4 : tie.Need-loop-less-4 Inv-loop μ-loop
+loop-less-4 c =
     let took = c .before .before .before .before .before .before .before .before .before .before .before .before .before .before .before .before .before .before .next-line .ensures in
     omega (arith, took .moved, took .within)
 
-loop-again-3 : tie.Need-loop-again-3 Inv-loop μ-loop
-loop-again-3 c =
+loop-again-4 : tie.Need-loop-again-4 Inv-loop μ-loop
+loop-again-4 c =
     let l = c .before .before .before .before .before .before .before .before .before .before .before .before .before .before .before .before .before .before .before .before .before .before .loop in
     let g = l .inv .5 in
     let a = c .before .before .before .before .before .before .before .before .before .before .before .before .before .before .before .before .before .before .before .before .before .before .before .before .before .before .before .before .before .before .before .before .args in
@@ -322,8 +415,8 @@ step-ahead-requires c κs =
       g .ready,
     )
 
-add-used-3 : tie.Need-add-used-3 Inv-loop μ-loop
-add-used-3 c =
+add-used-4 : tie.Need-add-used-4 Inv-loop μ-loop
+add-used-4 c =
     let l = c .before .before .before .before .before .before .before .before .before .before .before .before .before .before .before .before .before .before .before .before .before .before .before .before .before .before .before .before .before .before .before .before .before .before .before .before .before .before .before .before .before .before .before .loop in
     let g = l .inv .5 in
     let a = c .before .before .before .before .before .before .before .before .before .before .before .before .before .before .before .before .before .before .before .before .before .before .before .before .before .before .before .before .before .before .before .before .before .before .before .before .before .before .before .before .before .before .before .before .before .before .before .before .before .before .before .before .before .args in
@@ -342,13 +435,13 @@ add-used-3 c =
     (stepped .last .1 .1 .1 .1 .1 .1 .1 .1 .0) (stepped .last .1 .1 .1 .1 .1 .1 .1 .1 .1 .0) (stepped .last .1 .1 .1 .1 .1 .1 .1 .1 .1 .1 .0) answer (stepped .result .length) (stepped .ensures .step) in
     record { fits = omega (arith, few, left, g .room, l .inv .4, c .before .before .before .before .before .before .before .before .before .before .before .before .before .before .before .before .before .before .before .before .before .before .before .before .before .before .before .before .before .before .before .before .before .before .before .before .before .before .before .before .before .before .before .before .before .before .before .before .before .before .before .before .before .good) }
 
-loop-less-4 : tie.Need-loop-less-4 Inv-loop μ-loop
-loop-less-4 c =
+loop-less-5 : tie.Need-loop-less-5 Inv-loop μ-loop
+loop-less-5 c =
     let took = c .before .before .before .before .before .before .before .before .before .before .before .before .before .before .before .before .before .before .before .before .before .before .before .before .before .before .before .before .before .before .before .before .before .before .before .before .before .before .before .next-line .ensures in
     omega (arith, took .moved, took .within)
 
-loop-again-4 : tie.Need-loop-again-4 Inv-loop μ-loop
-loop-again-4 c =
+loop-again-5 : tie.Need-loop-again-5 Inv-loop μ-loop
+loop-again-5 c =
     let l = c .before .before .before .before .before .before .before .before .before .before .before .before .before .before .before .before .before .before .before .before .before .before .before .before .before .before .before .before .before .before .before .before .before .before .before .before .before .before .before .before .before .before .before .loop in
     let g = l .inv .5 in
     let a = c .before .before .before .before .before .before .before .before .before .before .before .before .before .before .before .before .before .before .before .before .before .before .before .before .before .before .before .before .before .before .before .before .before .before .before .before .before .before .before .before .before .before .before .before .before .before .before .before .before .before .before .before .before .args in
@@ -456,7 +549,16 @@ serve-bytes-spec =
     add-used
     loop-less-2
     loop-again-2
-    enum-told
+    enum-known-order-2
+    slice-aggregate-step-drop
+    sub-step-drop
+    part-step-drop-start
+    part-step-drop-end
+    step-drop-requires
+    without-requires
+    add-used-2
+    loop-less-3
+    loop-again-3
     slice-aggregate-try-ahead
     slice-aggregate-try-ahead-2
     slice-aggregate-try-ahead-3
@@ -464,9 +566,9 @@ serve-bytes-spec =
     part-try-ahead-start
     part-try-ahead-end
     try-ahead-requires
-    add-used-2
-    loop-less-3
-    loop-again-3
+    add-used-3
+    loop-less-4
+    loop-again-4
     slice-aggregate-step-ahead
     slice-aggregate-step-ahead-2
     slice-aggregate-step-ahead-3
@@ -474,9 +576,9 @@ serve-bytes-spec =
     part-step-ahead-start
     part-step-ahead-end
     step-ahead-requires
-    add-used-3
-    loop-less-4
-    loop-again-4
+    add-used-4
+    loop-less-5
+    loop-again-5
     same-length
     same-length-2
     same-length-3
