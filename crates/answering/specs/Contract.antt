@@ -12,7 +12,7 @@ use Rattle.booking.specs.Contract.{dayBooked, rowsBooked}
 use Rattle.dropping.specs.Contract.{counting}
 use Rattle.dropping.specs.Removal.{left}
 use Rattle.commands.specs.declared.Command.{Command}
-use Rattle.commands.specs.declared.Command.the-variants.{Book, Drop}
+use Rattle.commands.specs.declared.Command.the-variants.{Book, Drop, Bad}
 use Rattle.console.specs.Session.{SessionState}
 use Rattle.console.specs.Contract.{stepOf}
 use Rattle.answering.specs.declared.Answered.{Answered}
@@ -27,6 +27,12 @@ sessionAt day rows opens reserves helds = record { day = day; rows = rows; opens
 pub record AnswersOnly (f : List ℕ) (s : SessionState) (command : Command) (buffer : List ℕ) (r : Answered) (opens′ reserves′ helds′ buffer′ : List ℕ) : Type 0 where
   pub step : record { state = sessionAt (r .day) (r .rows) opens′ reserves′ helds′; buffer = buffer′; count = r .length } ≡ stepOf f s command buffer
   pub none : r .to ≡ 0
+
+-- a line that is no command is answered on any session of the day
+abbrev pub AnswersBad : Day → List ℕ → ℕ → List ℕ → Type 0
+AnswersBad day buffer n buffer′ =
+    (f : List ℕ) (rows : List Booking) (opens reserves helds : List ℕ)
+    → record { state = sessionAt day rows opens reserves helds; buffer = buffer′; count = n } ≡ stepOf f (sessionAt day rows opens reserves helds) Bad buffer
 
 -- day and records after an answer whose text has n bytes, where `first` stands first
 pub record Records (day : Day) (first : Booking) (q : Request) (a : Answer) (n : ℕ) (r : Recorded) : Type 0 where

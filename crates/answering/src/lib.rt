@@ -9,6 +9,7 @@ use dropping::drop_at;
 use films::types::Catalogue;
 use limits::bounds::HALL_PLACES;
 use limits::bounds::MAX_BOOKINGS;
+use limits::refusals::COMMAND;
 use model::Answer;
 use model::Booking;
 use model::Day;
@@ -24,7 +25,7 @@ ghost use Rattle.booking.specs.Contract.{Recordable};
 ghost use Rattle.booking.specs.Own.{maxLength};
 ghost use Rattle.commands.specs.declared.Command.the-variants.{Book, Drop};
 ghost use Rattle.text.specs.Digits.{outputBytes};
-ghost use Rattle.answering.specs.Contract.{sessionAt, AnswersOnly, Records, AnswersBook, AnswersDrop};
+ghost use Rattle.answering.specs.Contract.{sessionAt, AnswersOnly, AnswersBad, Records, AnswersBook, AnswersDrop};
 ghost use Rattle.answering.specs.declared.Order.the-variants.{Wanted, Unwanted};
 ghost use Rattle.answering.specs.Kept.{Ready};
 
@@ -99,6 +100,14 @@ pub fn step_rows(
         from: 0,
         to: 0,
     }
+}
+
+// A line that is no command: 24, and nothing changes. Gives how many bytes of text answer it.
+pub fn step_bad(day: Day, out: &mut [u8]) -> usize
+    requires { ⌜ outputBytes ≤ length (now out) ⌝ }
+    ensures { λ r. ⌜ AnswersBad day (now (out .entry)) r (now (out .exit)) ⌝ }
+{
+    write_first(out, 0, day.now, Answer::Refused(COMMAND))
 }
 
 // The request of a BOOK on a day, or the name of a DROP on one.

@@ -7,7 +7,6 @@ use films::types::Catalogue;
 use kept::keep_table;
 use limits::bounds::HALL_PLACES;
 use limits::bounds::MAX_BOOKINGS;
-use limits::refusals::COMMAND;
 use model::Answer;
 use model::Booking;
 use model::Day;
@@ -23,7 +22,7 @@ ghost use Prim.Native.Nat.{ℕ, _+_, _*_, _≤_, _<_, min};
 ghost use lib.ListN.{length, take};
 ghost use Rattle.limits.specs.Bounds.{maxBookings, hallPlaces};
 ghost use Rattle.table.specs.Table.{rowWords, Tabled};
-ghost use Rattle.commands.specs.declared.Command.the-variants.{Play, Bad};
+ghost use Rattle.commands.specs.declared.Command.the-variants.{Play};
 ghost use Rattle.text.specs.Text.{reportText};
 ghost use Rattle.text.specs.Write.{Wrote, maxText};
 ghost use Rattle.text.specs.Digits.{outputBytes};
@@ -79,18 +78,6 @@ fn no_reply(day: Day) -> Reply
 {
     Reply {
         length: 0,
-        now: day.now,
-    }
-}
-
-// A line that is no command: 24, and nothing changes.
-fn reply_bad(day: Day, out: &mut [u8]) -> Reply
-    requires { ⌜ outputBytes ≤ length (now out) ⌝ }
-    ensures { λ r. ⌜ ((f table : List ℕ) (from to : ℕ) → TriesAhead f day table from to Bad (now (out .entry)) r (now (out .exit))) ⌝ }
-{
-    let length = write_first(out, 0, day.now, Answer::Refused(COMMAND));
-    Reply {
-        length,
         now: day.now,
     }
 }
@@ -179,8 +166,7 @@ fn play_ahead(
     }
 }
 
-// Carries a line that is no command out, or a PLAY from what is kept, and writes its answer and report to the front of `out`; any
-// other command is left.
+// Carries a PLAY out from what is kept, and writes its answer and report to the front of `out`; any other command is left.
 pub fn try_ahead(
     file: &[u8],
     day: Day,
@@ -196,7 +182,7 @@ pub fn try_ahead(
     ensures { λ r. ⌜ TriesAhead (now (file .entry)) day (now (table .entry)) from to command (now (out .entry)) r (now (out .exit)) ⌝ }
 {
     match command {
-        Command::Bad => reply_bad(day, out),
+        Command::Bad => no_reply(day),
         Command::Play => {
             if PLACES < day.count {
                 return no_reply(day);

@@ -1,8 +1,10 @@
 // The input served as it comes: each line is answered when it ends, and the answers are collected in a buffer.
 use answering::Order;
 use answering::order_of;
+use answering::step_bad;
 use answering::step_book;
 use answering::step_drop;
+use commands::Command;
 use commands::parse;
 use console::OUTPUT_BYTES;
 use console::Session;
@@ -68,50 +70,57 @@ pub fn serve_bytes(
         if !taken.ended {
             continue;
         }
-        let order = order_of(day, command);
-        if let Order::Wanted(q) = order {
-            let booked = step_book(
-                file,
-                c,
-                day,
-                rows,
-                q,
-                &mut table,
-                &mut ahead,
-                opens,
-                reserves,
-                helds,
-                &mut out[used..],
-            );
-            let place = booked.place;
-            let booking = booked.record;
-            rows[place] = booking;
-            day.count = booked.count;
-            used += booked.length;
-            from = 0;
-            to = 0;
+        if let Command::Bad = command {
+            used += step_bad(day, &mut out[used..]);
             continue;
         }
-        if let Order::Unwanted(name) = order {
-            let dropped = step_drop(
-                file,
-                c,
-                day,
-                rows,
-                name,
-                &mut ahead,
-                opens,
-                reserves,
-                helds,
-                &mut out[used..],
-            );
-            let left = without(rows, day.count as usize, dropped.place);
-            rows = left;
-            day.count = dropped.count;
-            used += dropped.length;
-            from = 0;
-            to = 0;
-            continue;
+        let order = order_of(day, command);
+        match order {
+            Order::Wanted(q) => {
+                let booked = step_book(
+                    file,
+                    c,
+                    day,
+                    rows,
+                    q,
+                    &mut table,
+                    &mut ahead,
+                    opens,
+                    reserves,
+                    helds,
+                    &mut out[used..],
+                );
+                let place = booked.place;
+                let booking = booked.record;
+                rows[place] = booking;
+                day.count = booked.count;
+                used += booked.length;
+                from = 0;
+                to = 0;
+                continue;
+            }
+            Order::Unwanted(name) => {
+                let dropped = step_drop(
+                    file,
+                    c,
+                    day,
+                    rows,
+                    name,
+                    &mut ahead,
+                    opens,
+                    reserves,
+                    helds,
+                    &mut out[used..],
+                );
+                let left = without(rows, day.count as usize, dropped.place);
+                rows = left;
+                day.count = dropped.count;
+                used += dropped.length;
+                from = 0;
+                to = 0;
+                continue;
+            }
+            Order::Other => {}
         }
         let reply = try_ahead(
             file,

@@ -78,6 +78,82 @@ loop-again c =
       l .inv .9,
     )
 
+enum-told : tie.Need-enum-told Inv-loop μ-loop
+enum-told c = search needs
+
+sub-step-bad : tie.Need-sub-step-bad Inv-loop μ-loop
+sub-step-bad c = omega (arith, c .before .before .before .before .before .before .before .before .before .before .loop .inv .5 .room)
+
+part-step-bad-start : tie.Need-part-step-bad-start Inv-loop μ-loop
+part-step-bad-start c = omega (arith, c .before .before .before .before .before .before .before .before .before .before .loop .inv .5 .room)
+
+part-step-bad-end : tie.Need-part-step-bad-end Inv-loop μ-loop
+part-step-bad-end c = omega (arith, c .before .before .before .before .before .before .before .before .before .before .loop .inv .5 .room)
+
+step-bad-requires : tie.Need-step-bad-requires Inv-loop μ-loop
+step-bad-requires c κs =
+    let l = c .before .before .before .before .before .before .before .before .before .before .before .loop in
+    let left = leb-true outputBytes (length (l .out) - l .used) (c .before .before .before .before .before .before .before .before .before .if1 .taken) in
+    omega (arith, left, tail-length (l .used) (l .out))
+
+add-used : tie.Need-add-used Inv-loop μ-loop
+add-used c =
+    let l = c .before .before .before .before .before .before .before .before .before .before .before .before .before .before .loop in
+    let g = l .inv .5 in
+    let a = c .before .before .before .before .before .before .before .before .before .before .before .before .before .before .before .before .before .before .before .before .before .before .before .before .args in
+    let nl = c .before .before .before .before .before .before .before .before .before .before .next-line in
+    let bad = c .before .before .step-bad in
+    let left = leb-true outputBytes (length (l .out) - l .used) (c .before .before .before .before .before .before .before .before .before .before .before .before .if1 .taken) in
+    let part = midOf (l .used) (length (l .out) - l .used) (l .out) in
+    let enough : outputBytes ≤ length part = omega (arith, left, tail-length (l .used) (l .out)) in
+    let answer = bad .last .1 .0 in
+    let told = c .before .before .before .before .enum-told in
+    let took =
+    bad .ensures (a .file .now) (l .rows) (l .opens) (l .reserves) (l .helds)
+    ∙ ap (λ (k : Command). stepOf (a .file .now) (sessionAt (l .day) (l .rows) (l .opens) (l .reserves) (l .helds)) k part) (sym (told .given .1)) in
+    let few = turn-count (a .file .now) (a .c) (sessionAt (a .s .day) (a .s .rows) (a .opens .now) (a .reserves .now) (a .helds .now)) (take (a .held) (a .line .now)) (a .bytes .now) (l .line) (l .out) (l .opens) (l .reserves) (l .helds) (l .day) (l .rows) (l .kept) (l .at) (l .used) g (nl .result) (nl .last .0) (nl .ensures)
+    (l .out) refl part enough (l .day) (l .rows) (l .opens) (l .reserves) (l .helds) answer (bad .result) took in
+    record { fits = omega (arith, few, left, g .room, l .inv .4, c .before .before .before .before .before .before .before .before .before .before .before .before .before .before .before .before .before .before .before .before .before .before .before .before .good) }
+
+loop-less-2 : tie.Need-loop-less-2 Inv-loop μ-loop
+loop-less-2 c =
+    let took = c .before .before .before .before .before .before .before .before .before .before .next-line .ensures in
+    omega (arith, took .moved, took .within)
+
+loop-again-2 : tie.Need-loop-again-2 Inv-loop μ-loop
+loop-again-2 c =
+    let l = c .before .before .before .before .before .before .before .before .before .before .before .before .before .before .loop in
+    let g = l .inv .5 in
+    let a = c .before .before .before .before .before .before .before .before .before .before .before .before .before .before .before .before .before .before .before .before .before .before .before .before .args in
+    let nl = c .before .before .before .before .before .before .before .before .before .before .next-line in
+    let bad = c .before .before .step-bad in
+    let left = leb-true outputBytes (length (l .out) - l .used) (c .before .before .before .before .before .before .before .before .before .before .before .before .if1 .taken) in
+    let part = midOf (l .used) (length (l .out) - l .used) (l .out) in
+    let enough : outputBytes ≤ length part = omega (arith, left, tail-length (l .used) (l .out)) in
+    let answer = bad .last .1 .0 in
+    let told = c .before .before .before .before .enum-told in
+    let took =
+    bad .ensures (a .file .now) (l .rows) (l .opens) (l .reserves) (l .helds)
+    ∙ ap (λ (k : Command). stepOf (a .file .now) (sessionAt (l .day) (l .rows) (l .opens) (l .reserves) (l .helds)) k part) (sym (told .given .1)) in
+    let out′ = putMid (l .used) (length (l .out) - l .used) (l .out) answer in
+    let long : length out′ ≡ length (l .out) = back-length (l .used) (l .out) answer (g .room) (bad .kept .1 .0) in
+    let few = turn-count (a .file .now) (a .c) (sessionAt (a .s .day) (a .s .rows) (a .opens .now) (a .reserves .now) (a .helds .now)) (take (a .held) (a .line .now)) (a .bytes .now) (l .line) (l .out) (l .opens) (l .reserves) (l .helds) (l .day) (l .rows) (l .kept) (l .at) (l .used) g (nl .result) (nl .last .0) (nl .ensures)
+    (l .out) refl part enough (l .day) (l .rows) (l .opens) (l .reserves) (l .helds) answer (bad .result) took in
+    let fits : l .used + bad .result ≤ length out′ = omega (arith, few, left, long, g .room) in (
+      nl .kept .0 ∙ l .inv .0,
+      l .inv .1,
+      l .inv .2,
+      l .inv .3,
+      long ∙ l .inv .4,
+      turn-line (a .file .now) (a .c) (sessionAt (a .s .day) (a .s .rows) (a .opens .now) (a .reserves .now) (a .helds .now)) (take (a .held) (a .line .now)) (a .bytes .now) (l .line) (l .out) (l .opens) (l .reserves) (l .helds) (l .day) (l .rows) (l .kept) (l .at) (l .used) g (nl .result) (nl .last .0) (nl .ensures)
+          (l .out) refl part enough (l .day) (l .rows) (l .opens) (l .reserves) (l .helds) answer (bad .result) took
+          (not-false (nl .result .ended) (c .before .before .before .before .before .before .if2 .left)) out′ (tail-back (l .used) (l .out) answer) fits,
+      l .inv .6,
+      l .inv .7,
+      l .inv .8,
+      l .inv .9,
+    )
+
 order-of-requires : tie.Need-order-of-requires Inv-loop μ-loop
 order-of-requires c κs = search needs
 
@@ -85,26 +161,26 @@ enum-known-order : tie.Need-enum-known-order Inv-loop μ-loop
 enum-known-order c = search needs
 
 slice-aggregate-step-book : tie.Need-slice-aggregate-step-book Inv-loop μ-loop
-slice-aggregate-step-book c = sym (c .before .before .before .before .before .before .before .before .before .before .before .before .before .loop .inv .6)
+slice-aggregate-step-book c = sym (c .before .before .before .before .before .before .before .before .before .before .before .before .before .before .loop .inv .6)
 
 slice-aggregate-step-book-2 : tie.Need-slice-aggregate-step-book-2 Inv-loop μ-loop
-slice-aggregate-step-book-2 c = sym (c .before .before .before .before .before .before .before .before .before .before .before .before .before .before .loop .inv .7)
+slice-aggregate-step-book-2 c = sym (c .before .before .before .before .before .before .before .before .before .before .before .before .before .before .before .loop .inv .7)
 
 sub-step-book : tie.Need-sub-step-book Inv-loop μ-loop
-sub-step-book c = omega (arith, c .before .before .before .before .before .before .before .before .before .before .before .before .before .before .before .before .before .loop .inv .5 .room)
+sub-step-book c = omega (arith, c .before .before .before .before .before .before .before .before .before .before .before .before .before .before .before .before .before .before .loop .inv .5 .room)
 
 part-step-book-start : tie.Need-part-step-book-start Inv-loop μ-loop
-part-step-book-start c = omega (arith, c .before .before .before .before .before .before .before .before .before .before .before .before .before .before .before .before .before .loop .inv .5 .room)
+part-step-book-start c = omega (arith, c .before .before .before .before .before .before .before .before .before .before .before .before .before .before .before .before .before .before .loop .inv .5 .room)
 
 part-step-book-end : tie.Need-part-step-book-end Inv-loop μ-loop
-part-step-book-end c = omega (arith, c .before .before .before .before .before .before .before .before .before .before .before .before .before .before .before .before .before .loop .inv .5 .room)
+part-step-book-end c = omega (arith, c .before .before .before .before .before .before .before .before .before .before .before .before .before .before .before .before .before .before .loop .inv .5 .room)
 
 step-book-requires : tie.Need-step-book-requires Inv-loop μ-loop
 step-book-requires c κs =
-    let l = c .before .before .before .before .before .before .before .before .before .before .before .before .before .before .before .before .before .before .loop in
+    let l = c .before .before .before .before .before .before .before .before .before .before .before .before .before .before .before .before .before .before .before .loop in
     let at = c .before .before .before .before .before .before .before .order .given in
     let wanted = c .before .before .before .before .before .before .before .before .before .order-of .ensures .0 (at .0 .0) (at .1) in
-    let left = leb-true outputBytes (length (l .out) - l .used) (c .before .before .before .before .before .before .before .before .before .before .before .before .before .before .before .before .if1 .taken) in
+    let left = leb-true outputBytes (length (l .out) - l .used) (c .before .before .before .before .before .before .before .before .before .before .before .before .before .before .before .before .before .if1 .taken) in
     (omega (arith, left, tail-length (l .used) (l .out)), wanted .1, l .inv .5 .ready, omega (arith, l .inv .6), omega (arith, l .inv .7))
 
 mul-rows : tie.Need-mul-rows Inv-loop μ-loop
@@ -113,16 +189,16 @@ mul-rows c = omega (arith, c .before .before .before .before .before .before .be
 array-set-from-rows : tie.Need-array-set-from-rows Inv-loop μ-loop
 array-set-from-rows c = omega (arith, c .before .before .before .before .before .before .before .before .before .before .before .step-book .ensures .inside)
 
-add-used : tie.Need-add-used Inv-loop μ-loop
-add-used c =
-    let l = c .before .before .before .before .before .before .before .before .before .before .before .before .before .before .before .before .before .before .before .before .before .before .before .before .before .before .before .before .before .before .before .loop in
+add-used-2 : tie.Need-add-used-2 Inv-loop μ-loop
+add-used-2 c =
+    let l = c .before .before .before .before .before .before .before .before .before .before .before .before .before .before .before .before .before .before .before .before .before .before .before .before .before .before .before .before .before .before .before .before .loop in
     let g = l .inv .5 in
-    let a = c .before .before .before .before .before .before .before .before .before .before .before .before .before .before .before .before .before .before .before .before .before .before .before .before .before .before .before .before .before .before .before .before .before .before .before .before .before .before .before .before .before .args in
-    let nl = c .before .before .before .before .before .before .before .before .before .before .before .before .before .before .before .before .before .before .before .before .before .before .before .before .before .before .before .next-line in
+    let a = c .before .before .before .before .before .before .before .before .before .before .before .before .before .before .before .before .before .before .before .before .before .before .before .before .before .before .before .before .before .before .before .before .before .before .before .before .before .before .before .before .before .before .args in
+    let nl = c .before .before .before .before .before .before .before .before .before .before .before .before .before .before .before .before .before .before .before .before .before .before .before .before .before .before .before .before .next-line in
     let at = c .before .before .before .before .before .before .before .before .before .before .before .before .before .before .before .before .before .before .before .before .order .given in
     let wanted = c .before .before .before .before .before .before .before .before .before .before .before .before .before .before .before .before .before .before .before .before .before .before .order-of .ensures .0 (at .0 .0) (at .1) in
     let booked = c .before .before .before .before .before .before .before .before .before .before .before .before .step-book in
-    let left = leb-true outputBytes (length (l .out) - l .used) (c .before .before .before .before .before .before .before .before .before .before .before .before .before .before .before .before .before .before .before .before .before .before .before .before .before .before .before .before .before .if1 .taken) in
+    let left = leb-true outputBytes (length (l .out) - l .used) (c .before .before .before .before .before .before .before .before .before .before .before .before .before .before .before .before .before .before .before .before .before .before .before .before .before .before .before .before .before .before .if1 .taken) in
     let part = midOf (l .used) (length (l .out) - l .used) (l .out) in
     let enough : outputBytes ≤ length part = omega (arith, left, tail-length (l .used) (l .out)) in
     let answer = booked .last .1 .1 .1 .1 .1 .1 .1 .1 .1 .1 .0 in
@@ -130,21 +206,21 @@ add-used c =
     let few = turn-count (a .file .now) (a .c) (sessionAt (a .s .day) (a .s .rows) (a .opens .now) (a .reserves .now) (a .helds .now)) (take (a .held) (a .line .now)) (a .bytes .now) (l .line) (l .out) (l .opens) (l .reserves) (l .helds) (l .day) (l .rows) (l .kept) (l .at) (l .used) g (nl .result) (nl .last .0) (nl .ensures)
     (l .out) refl part enough (counting (l .day) (booked .result .count)) (set (l .rows) (booked .result .place) (booked .result .record))
     (booked .last .1 .1 .1 .1 .1 .1 .1 .0) (booked .last .1 .1 .1 .1 .1 .1 .1 .1 .0) (booked .last .1 .1 .1 .1 .1 .1 .1 .1 .1 .0) answer (booked .result .length) took in
-    record { fits = omega (arith, few, left, g .room, l .inv .4, c .before .before .before .before .before .before .before .before .before .before .before .before .before .before .before .before .before .before .before .before .before .before .before .before .before .before .before .before .before .before .before .before .before .before .before .before .before .before .before .before .before .good) }
+    record { fits = omega (arith, few, left, g .room, l .inv .4, c .before .before .before .before .before .before .before .before .before .before .before .before .before .before .before .before .before .before .before .before .before .before .before .before .before .before .before .before .before .before .before .before .before .before .before .before .before .before .before .before .before .before .good) }
 
-loop-less-2 : tie.Need-loop-less-2 Inv-loop μ-loop
-loop-less-2 c = let took = c .before .before .before .before .before .before .before .before .before .before .before .before .before .before .before .before .before .before .before .before .before .before .before .before .before .before .before .next-line .ensures in omega (arith, took .moved, took .within)
+loop-less-3 : tie.Need-loop-less-3 Inv-loop μ-loop
+loop-less-3 c = let took = c .before .before .before .before .before .before .before .before .before .before .before .before .before .before .before .before .before .before .before .before .before .before .before .before .before .before .before .before .next-line .ensures in omega (arith, took .moved, took .within)
 
-loop-again-2 : tie.Need-loop-again-2 Inv-loop μ-loop
-loop-again-2 c =
-    let l = c .before .before .before .before .before .before .before .before .before .before .before .before .before .before .before .before .before .before .before .before .before .before .before .before .before .before .before .before .before .before .before .loop in
+loop-again-3 : tie.Need-loop-again-3 Inv-loop μ-loop
+loop-again-3 c =
+    let l = c .before .before .before .before .before .before .before .before .before .before .before .before .before .before .before .before .before .before .before .before .before .before .before .before .before .before .before .before .before .before .before .before .loop in
     let g = l .inv .5 in
-    let a = c .before .before .before .before .before .before .before .before .before .before .before .before .before .before .before .before .before .before .before .before .before .before .before .before .before .before .before .before .before .before .before .before .before .before .before .before .before .before .before .before .before .args in
-    let nl = c .before .before .before .before .before .before .before .before .before .before .before .before .before .before .before .before .before .before .before .before .before .before .before .before .before .before .before .next-line in
+    let a = c .before .before .before .before .before .before .before .before .before .before .before .before .before .before .before .before .before .before .before .before .before .before .before .before .before .before .before .before .before .before .before .before .before .before .before .before .before .before .before .before .before .before .args in
+    let nl = c .before .before .before .before .before .before .before .before .before .before .before .before .before .before .before .before .before .before .before .before .before .before .before .before .before .before .before .before .next-line in
     let at = c .before .before .before .before .before .before .before .before .before .before .before .before .before .before .before .before .before .before .before .before .order .given in
     let wanted = c .before .before .before .before .before .before .before .before .before .before .before .before .before .before .before .before .before .before .before .before .before .before .order-of .ensures .0 (at .0 .0) (at .1) in
     let booked = c .before .before .before .before .before .before .before .before .before .before .before .before .step-book in
-    let left = leb-true outputBytes (length (l .out) - l .used) (c .before .before .before .before .before .before .before .before .before .before .before .before .before .before .before .before .before .before .before .before .before .before .before .before .before .before .before .before .before .if1 .taken) in
+    let left = leb-true outputBytes (length (l .out) - l .used) (c .before .before .before .before .before .before .before .before .before .before .before .before .before .before .before .before .before .before .before .before .before .before .before .before .before .before .before .before .before .before .if1 .taken) in
     let part = midOf (l .used) (length (l .out) - l .used) (l .out) in
     let enough : outputBytes ≤ length part = omega (arith, left, tail-length (l .used) (l .out)) in
     let answer = booked .last .1 .1 .1 .1 .1 .1 .1 .1 .1 .1 .0 in
@@ -163,7 +239,7 @@ loop-again-2 c =
       turn-line (a .file .now) (a .c) (sessionAt (a .s .day) (a .s .rows) (a .opens .now) (a .reserves .now) (a .helds .now)) (take (a .held) (a .line .now)) (a .bytes .now) (l .line) (l .out) (l .opens) (l .reserves) (l .helds) (l .day) (l .rows) (l .kept) (l .at) (l .used) g (nl .result) (nl .last .0) (nl .ensures)
           (l .out) refl part enough (counting (l .day) (booked .result .count)) (set (l .rows) (booked .result .place) (booked .result .record))
           (booked .last .1 .1 .1 .1 .1 .1 .1 .0) (booked .last .1 .1 .1 .1 .1 .1 .1 .1 .0) (booked .last .1 .1 .1 .1 .1 .1 .1 .1 .1 .0) answer (booked .result .length) took
-          (not-false (nl .result .ended) (c .before .before .before .before .before .before .before .before .before .before .before .before .before .before .before .before .before .before .before .before .before .before .before .if2 .left)) out′ (tail-back (l .used) (l .out) answer) fits,
+          (not-false (nl .result .ended) (c .before .before .before .before .before .before .before .before .before .before .before .before .before .before .before .before .before .before .before .before .before .before .before .before .if2 .left)) out′ (tail-back (l .used) (l .out) answer) fits,
       booked .kept .1 .1 .1 .1 .1 .0 ∙ l .inv .6,
       booked .kept .1 .1 .1 .1 .1 .1 .0 ∙ l .inv .7,
       l .inv .8,
@@ -189,21 +265,21 @@ step-drop-requires : tie.Need-step-drop-requires Inv-loop μ-loop
 step-drop-requires c κs =
     let l = c .before .before .before .before .before .before .before .before .before .before .before .before .before .before .before .before .before .before .loop in
     let at = c .before .before .before .before .before .before .order2 .given in
-    let wanted = c .before .before .before .before .before .before .before .before .before .order-of .ensures .1 (at .0 .0) (at .1) in
+    let wanted = c .before .before .before .before .before .before .before .before .order-of .ensures .1 (at .0 .0) (at .1) in
     let left = leb-true outputBytes (length (l .out) - l .used) (c .before .before .before .before .before .before .before .before .before .before .before .before .before .before .before .before .if1 .taken) in
     (omega (arith, left, tail-length (l .used) (l .out)), wanted .1, l .inv .5 .ready, omega (arith, l .inv .7))
 
 without-requires : tie.Need-without-requires Inv-loop μ-loop
 without-requires c κs = c .before .before .before .before .before .before .before .before .before .step-drop .ensures .few
 
-add-used-2 : tie.Need-add-used-2 Inv-loop μ-loop
-add-used-2 c =
+add-used-3 : tie.Need-add-used-3 Inv-loop μ-loop
+add-used-3 c =
     let l = c .before .before .before .before .before .before .before .before .before .before .before .before .before .before .before .before .before .before .before .before .before .before .before .before .before .before .before .before .before .before .loop in
     let g = l .inv .5 in
     let a = c .before .before .before .before .before .before .before .before .before .before .before .before .before .before .before .before .before .before .before .before .before .before .before .before .before .before .before .before .before .before .before .before .before .before .before .before .before .before .before .before .args in
     let nl = c .before .before .before .before .before .before .before .before .before .before .before .before .before .before .before .before .before .before .before .before .before .before .before .before .before .before .next-line in
     let at = c .before .before .before .before .before .before .before .before .before .before .before .before .before .before .before .before .before .before .order2 .given in
-    let wanted = c .before .before .before .before .before .before .before .before .before .before .before .before .before .before .before .before .before .before .before .before .before .order-of .ensures .1 (at .0 .0) (at .1) in
+    let wanted = c .before .before .before .before .before .before .before .before .before .before .before .before .before .before .before .before .before .before .before .before .order-of .ensures .1 (at .0 .0) (at .1) in
     let dropped = c .before .before .before .before .before .before .before .before .before .before .before .step-drop in
     let rest = c .before .without in
     let rows = rest .result in
@@ -220,17 +296,17 @@ add-used-2 c =
     (dropped .last .1 .1 .1 .1 .1 .1 .0) (dropped .last .1 .1 .1 .1 .1 .1 .1 .0) (dropped .last .1 .1 .1 .1 .1 .1 .1 .1 .0) answer (dropped .result .length) took in
     record { fits = omega (arith, few, left, g .room, l .inv .4, c .before .before .before .before .before .before .before .before .before .before .before .before .before .before .before .before .before .before .before .before .before .before .before .before .before .before .before .before .before .before .before .before .before .before .before .before .before .before .before .before .good) }
 
-loop-less-3 : tie.Need-loop-less-3 Inv-loop μ-loop
-loop-less-3 c = let took = c .before .before .before .before .before .before .before .before .before .before .before .before .before .before .before .before .before .before .before .before .before .before .before .before .before .before .next-line .ensures in omega (arith, took .moved, took .within)
+loop-less-4 : tie.Need-loop-less-4 Inv-loop μ-loop
+loop-less-4 c = let took = c .before .before .before .before .before .before .before .before .before .before .before .before .before .before .before .before .before .before .before .before .before .before .before .before .before .before .next-line .ensures in omega (arith, took .moved, took .within)
 
-loop-again-3 : tie.Need-loop-again-3 Inv-loop μ-loop
-loop-again-3 c =
+loop-again-4 : tie.Need-loop-again-4 Inv-loop μ-loop
+loop-again-4 c =
     let l = c .before .before .before .before .before .before .before .before .before .before .before .before .before .before .before .before .before .before .before .before .before .before .before .before .before .before .before .before .before .before .loop in
     let g = l .inv .5 in
     let a = c .before .before .before .before .before .before .before .before .before .before .before .before .before .before .before .before .before .before .before .before .before .before .before .before .before .before .before .before .before .before .before .before .before .before .before .before .before .before .before .before .args in
     let nl = c .before .before .before .before .before .before .before .before .before .before .before .before .before .before .before .before .before .before .before .before .before .before .before .before .before .before .next-line in
     let at = c .before .before .before .before .before .before .before .before .before .before .before .before .before .before .before .before .before .before .order2 .given in
-    let wanted = c .before .before .before .before .before .before .before .before .before .before .before .before .before .before .before .before .before .before .before .before .before .order-of .ensures .1 (at .0 .0) (at .1) in
+    let wanted = c .before .before .before .before .before .before .before .before .before .before .before .before .before .before .before .before .before .before .before .before .order-of .ensures .1 (at .0 .0) (at .1) in
     let dropped = c .before .before .before .before .before .before .before .before .before .before .before .step-drop in
     let rest = c .before .without in
     let rows = rest .result in
@@ -263,73 +339,76 @@ loop-again-3 c =
       record { looked = λ h. absurd (omega arith); tabled = λ h. absurd (omega arith) },
     )
 
+enum-told-2 : tie.Need-enum-told-2 Inv-loop μ-loop
+enum-told-2 c = search needs
+
 slice-aggregate-try-ahead : tie.Need-slice-aggregate-try-ahead Inv-loop μ-loop
-slice-aggregate-try-ahead c = sym (c .before .before .before .before .before .before .before .before .before .before .before .before .loop .inv .6)
+slice-aggregate-try-ahead c = sym (c .before .before .before .before .before .before .before .before .before .before .before .before .before .loop .inv .6)
 
 slice-aggregate-try-ahead-2 : tie.Need-slice-aggregate-try-ahead-2 Inv-loop μ-loop
-slice-aggregate-try-ahead-2 c = sym (c .before .before .before .before .before .before .before .before .before .before .before .before .before .loop .inv .7)
+slice-aggregate-try-ahead-2 c = sym (c .before .before .before .before .before .before .before .before .before .before .before .before .before .before .loop .inv .7)
 
 slice-aggregate-try-ahead-3 : tie.Need-slice-aggregate-try-ahead-3 Inv-loop μ-loop
-slice-aggregate-try-ahead-3 c = sym (c .before .before .before .before .before .before .before .before .before .before .before .before .before .before .loop .inv .8)
+slice-aggregate-try-ahead-3 c = sym (c .before .before .before .before .before .before .before .before .before .before .before .before .before .before .before .loop .inv .8)
 
 sub-try-ahead : tie.Need-sub-try-ahead Inv-loop μ-loop
 sub-try-ahead c =
-    let l = c .before .before .before .before .before .before .before .before .before .before .before .before .before .before .loop in
+    let l = c .before .before .before .before .before .before .before .before .before .before .before .before .before .before .before .loop in
     let g = l .inv .5 in
-    let a = c .before .before .before .before .before .before .before .before .before .before .before .before .before .before .before .before .before .before .before .before .before .before .before .before .args in
+    let a = c .before .before .before .before .before .before .before .before .before .before .before .before .before .before .before .before .before .before .before .before .before .before .before .before .before .args in
     omega (arith, g .room)
 
 part-try-ahead-start : tie.Need-part-try-ahead-start Inv-loop μ-loop
 part-try-ahead-start c =
-    let l = c .before .before .before .before .before .before .before .before .before .before .before .before .before .before .loop in
+    let l = c .before .before .before .before .before .before .before .before .before .before .before .before .before .before .before .loop in
     let g = l .inv .5 in
-    let a = c .before .before .before .before .before .before .before .before .before .before .before .before .before .before .before .before .before .before .before .before .before .before .before .before .args in
+    let a = c .before .before .before .before .before .before .before .before .before .before .before .before .before .before .before .before .before .before .before .before .before .before .before .before .before .args in
     omega (arith, g .room)
 
 part-try-ahead-end : tie.Need-part-try-ahead-end Inv-loop μ-loop
 part-try-ahead-end c =
-    let l = c .before .before .before .before .before .before .before .before .before .before .before .before .before .before .loop in
+    let l = c .before .before .before .before .before .before .before .before .before .before .before .before .before .before .before .loop in
     let g = l .inv .5 in
-    let a = c .before .before .before .before .before .before .before .before .before .before .before .before .before .before .before .before .before .before .before .before .before .before .before .before .args in
+    let a = c .before .before .before .before .before .before .before .before .before .before .before .before .before .before .before .before .before .before .before .before .before .before .before .before .before .args in
     omega (arith, g .room)
 
 try-ahead-requires : tie.Need-try-ahead-requires Inv-loop μ-loop
 try-ahead-requires c κs =
-    let l = c .before .before .before .before .before .before .before .before .before .before .before .before .before .before .before .loop in
+    let l = c .before .before .before .before .before .before .before .before .before .before .before .before .before .before .before .before .loop in
     let g = l .inv .5 in
-    let a = c .before .before .before .before .before .before .before .before .before .before .before .before .before .before .before .before .before .before .before .before .before .before .before .before .before .args in
-    let left = leb-true outputBytes (length (l .out) - l .used) (c .before .before .before .before .before .before .before .before .before .before .before .before .before .if1 .taken) in
+    let a = c .before .before .before .before .before .before .before .before .before .before .before .before .before .before .before .before .before .before .before .before .before .before .before .before .before .before .args in
+    let left = leb-true outputBytes (length (l .out) - l .used) (c .before .before .before .before .before .before .before .before .before .before .before .before .before .before .if1 .taken) in
     (omega (arith, left, tail-length (l .used) (l .out)), omega (arith, l .inv .8), l .inv .9 .looked)
 
-add-used-3 : tie.Need-add-used-3 Inv-loop μ-loop
-add-used-3 c =
-    let l = c .before .before .before .before .before .before .before .before .before .before .before .before .before .before .before .before .before .before .before .before .before .before .loop in
+add-used-4 : tie.Need-add-used-4 Inv-loop μ-loop
+add-used-4 c =
+    let l = c .before .before .before .before .before .before .before .before .before .before .before .before .before .before .before .before .before .before .before .before .before .before .before .loop in
     let g = l .inv .5 in
-    let a = c .before .before .before .before .before .before .before .before .before .before .before .before .before .before .before .before .before .before .before .before .before .before .before .before .before .before .before .before .before .before .before .before .args in
-    let nl = c .before .before .before .before .before .before .before .before .before .before .before .before .before .before .before .before .before .before .next-line in
+    let a = c .before .before .before .before .before .before .before .before .before .before .before .before .before .before .before .before .before .before .before .before .before .before .before .before .before .before .before .before .before .before .before .before .before .args in
+    let nl = c .before .before .before .before .before .before .before .before .before .before .before .before .before .before .before .before .before .before .before .next-line in
     let tried = c .before .before .before .before .before .before .try-ahead in
-    let left = leb-true outputBytes (length (l .out) - l .used) (c .before .before .before .before .before .before .before .before .before .before .before .before .before .before .before .before .before .before .before .before .if1 .taken) in
+    let left = leb-true outputBytes (length (l .out) - l .used) (c .before .before .before .before .before .before .before .before .before .before .before .before .before .before .before .before .before .before .before .before .before .if1 .taken) in
     let part = midOf (l .used) (length (l .out) - l .used) (l .out) in
     let enough : outputBytes ≤ length part = omega (arith, left, tail-length (l .used) (l .out)) in
     let answer = tried .last .1 .1 .1 .1 .1 .1 .1 .1 .0 in
     let took = tried .ensures .took (c .before .if3 .taken) (a .c) (l .rows) (l .opens) (l .reserves) (l .helds) (g .ready) (l .inv .9 .tabled) in
     let few = turn-count (a .file .now) (a .c) (sessionAt (a .s .day) (a .s .rows) (a .opens .now) (a .reserves .now) (a .helds .now)) (take (a .held) (a .line .now)) (a .bytes .now) (l .line) (l .out) (l .opens) (l .reserves) (l .helds) (l .day) (l .rows) (l .kept) (l .at) (l .used) g (nl .result) (nl .last .0) (nl .ensures)
     (l .out) refl part enough (atRound (l .day) (tried .result .now)) (l .rows) (l .opens) (l .reserves) (l .helds) answer (tried .result .length) took in
-    record { fits = omega (arith, few, left, g .room, l .inv .4, c .before .before .before .before .before .before .before .before .before .before .before .before .before .before .before .before .before .before .before .before .before .before .before .before .before .before .before .before .before .before .before .before .good) }
+    record { fits = omega (arith, few, left, g .room, l .inv .4, c .before .before .before .before .before .before .before .before .before .before .before .before .before .before .before .before .before .before .before .before .before .before .before .before .before .before .before .before .before .before .before .before .before .good) }
 
-loop-less-4 : tie.Need-loop-less-4 Inv-loop μ-loop
-loop-less-4 c =
-    let took = c .before .before .before .before .before .before .before .before .before .before .before .before .before .before .before .before .before .before .next-line .ensures in
+loop-less-5 : tie.Need-loop-less-5 Inv-loop μ-loop
+loop-less-5 c =
+    let took = c .before .before .before .before .before .before .before .before .before .before .before .before .before .before .before .before .before .before .before .next-line .ensures in
     omega (arith, took .moved, took .within)
 
-loop-again-4 : tie.Need-loop-again-4 Inv-loop μ-loop
-loop-again-4 c =
-    let l = c .before .before .before .before .before .before .before .before .before .before .before .before .before .before .before .before .before .before .before .before .before .before .loop in
+loop-again-5 : tie.Need-loop-again-5 Inv-loop μ-loop
+loop-again-5 c =
+    let l = c .before .before .before .before .before .before .before .before .before .before .before .before .before .before .before .before .before .before .before .before .before .before .before .loop in
     let g = l .inv .5 in
-    let a = c .before .before .before .before .before .before .before .before .before .before .before .before .before .before .before .before .before .before .before .before .before .before .before .before .before .before .before .before .before .before .before .before .args in
-    let nl = c .before .before .before .before .before .before .before .before .before .before .before .before .before .before .before .before .before .before .next-line in
+    let a = c .before .before .before .before .before .before .before .before .before .before .before .before .before .before .before .before .before .before .before .before .before .before .before .before .before .before .before .before .before .before .before .before .before .args in
+    let nl = c .before .before .before .before .before .before .before .before .before .before .before .before .before .before .before .before .before .before .before .next-line in
     let tried = c .before .before .before .before .before .before .try-ahead in
-    let left = leb-true outputBytes (length (l .out) - l .used) (c .before .before .before .before .before .before .before .before .before .before .before .before .before .before .before .before .before .before .before .before .if1 .taken) in
+    let left = leb-true outputBytes (length (l .out) - l .used) (c .before .before .before .before .before .before .before .before .before .before .before .before .before .before .before .before .before .before .before .before .before .if1 .taken) in
     let part = midOf (l .used) (length (l .out) - l .used) (l .out) in
     let enough : outputBytes ≤ length part = omega (arith, left, tail-length (l .used) (l .out)) in
     let answer = tried .last .1 .1 .1 .1 .1 .1 .1 .1 .0 in
@@ -346,7 +425,7 @@ loop-again-4 c =
       long ∙ l .inv .4,
       turn-line (a .file .now) (a .c) (sessionAt (a .s .day) (a .s .rows) (a .opens .now) (a .reserves .now) (a .helds .now)) (take (a .held) (a .line .now)) (a .bytes .now) (l .line) (l .out) (l .opens) (l .reserves) (l .helds) (l .day) (l .rows) (l .kept) (l .at) (l .used) g (nl .result) (nl .last .0) (nl .ensures)
           (l .out) refl part enough (atRound (l .day) (tried .result .now)) (l .rows) (l .opens) (l .reserves) (l .helds) answer (tried .result .length) took
-          (not-false (nl .result .ended) (c .before .before .before .before .before .before .before .before .before .before .before .before .before .before .if2 .left)) out′ (tail-back (l .used) (l .out) answer) fits,
+          (not-false (nl .result .ended) (c .before .before .before .before .before .before .before .before .before .before .before .before .before .before .before .if2 .left)) out′ (tail-back (l .used) (l .out) answer) fits,
       l .inv .6,
       l .inv .7,
       tried .kept .1 .1 .1 .1 .1 .1 .1 .0 ∙ l .inv .8,
@@ -354,19 +433,19 @@ loop-again-4 c =
     )
 
 slice-aggregate-step-ahead : tie.Need-slice-aggregate-step-ahead Inv-loop μ-loop
-slice-aggregate-step-ahead c = sym (c .before .before .before .before .before .before .before .before .before .before .before .before .before .before .before .before .before .before .before .before .before .before .loop .inv .6)
+slice-aggregate-step-ahead c = sym (c .before .before .before .before .before .before .before .before .before .before .before .before .before .before .before .before .before .before .before .before .before .before .before .loop .inv .6)
 
 slice-aggregate-step-ahead-2 : tie.Need-slice-aggregate-step-ahead-2 Inv-loop μ-loop
-slice-aggregate-step-ahead-2 c = sym (c .before .before .before .before .before .before .before .before .before .before .before .before .before .before .before .before .before .before .before .before .before .before .before .loop .inv .7)
+slice-aggregate-step-ahead-2 c = sym (c .before .before .before .before .before .before .before .before .before .before .before .before .before .before .before .before .before .before .before .before .before .before .before .before .loop .inv .7)
 
 slice-aggregate-step-ahead-3 : tie.Need-slice-aggregate-step-ahead-3 Inv-loop μ-loop
-slice-aggregate-step-ahead-3 c = sym (c .before .before .before .before .before .before .before .before .try-ahead .kept .1 .1 .1 .1 .1 .1 .1 .0 ∙ c .before .before .before .before .before .before .before .before .before .before .before .before .before .before .before .before .before .before .before .before .before .before .before .before .loop .inv .8)
+slice-aggregate-step-ahead-3 c = sym (c .before .before .before .before .before .before .before .before .try-ahead .kept .1 .1 .1 .1 .1 .1 .1 .0 ∙ c .before .before .before .before .before .before .before .before .before .before .before .before .before .before .before .before .before .before .before .before .before .before .before .before .before .loop .inv .8)
 
 sub-step-ahead : tie.Need-sub-step-ahead Inv-loop μ-loop
 sub-step-ahead c =
-    let l = c .before .before .before .before .before .before .before .before .before .before .before .before .before .before .before .before .before .before .before .before .before .before .before .before .before .before .before .loop in
+    let l = c .before .before .before .before .before .before .before .before .before .before .before .before .before .before .before .before .before .before .before .before .before .before .before .before .before .before .before .before .loop in
     let g = l .inv .5 in
-    let a = c .before .before .before .before .before .before .before .before .before .before .before .before .before .before .before .before .before .before .before .before .before .before .before .before .before .before .before .before .before .before .before .before .before .before .before .before .before .args in
+    let a = c .before .before .before .before .before .before .before .before .before .before .before .before .before .before .before .before .before .before .before .before .before .before .before .before .before .before .before .before .before .before .before .before .before .before .before .before .before .before .args in
     let tried = c .before .before .before .before .before .before .before .before .before .before .before .try-ahead in
     let back = tried .last .1 .1 .1 .1 .1 .1 .1 .1 .0 in
     let out₁ = putMid (l .used) (length (l .out) - l .used) (l .out) back in
@@ -375,9 +454,9 @@ sub-step-ahead c =
 
 part-step-ahead-start : tie.Need-part-step-ahead-start Inv-loop μ-loop
 part-step-ahead-start c =
-    let l = c .before .before .before .before .before .before .before .before .before .before .before .before .before .before .before .before .before .before .before .before .before .before .before .before .before .before .before .loop in
+    let l = c .before .before .before .before .before .before .before .before .before .before .before .before .before .before .before .before .before .before .before .before .before .before .before .before .before .before .before .before .loop in
     let g = l .inv .5 in
-    let a = c .before .before .before .before .before .before .before .before .before .before .before .before .before .before .before .before .before .before .before .before .before .before .before .before .before .before .before .before .before .before .before .before .before .before .before .before .before .args in
+    let a = c .before .before .before .before .before .before .before .before .before .before .before .before .before .before .before .before .before .before .before .before .before .before .before .before .before .before .before .before .before .before .before .before .before .before .before .before .before .before .args in
     let tried = c .before .before .before .before .before .before .before .before .before .before .before .try-ahead in
     let back = tried .last .1 .1 .1 .1 .1 .1 .1 .1 .0 in
     let out₁ = putMid (l .used) (length (l .out) - l .used) (l .out) back in
@@ -386,9 +465,9 @@ part-step-ahead-start c =
 
 part-step-ahead-end : tie.Need-part-step-ahead-end Inv-loop μ-loop
 part-step-ahead-end c =
-    let l = c .before .before .before .before .before .before .before .before .before .before .before .before .before .before .before .before .before .before .before .before .before .before .before .before .before .before .before .loop in
+    let l = c .before .before .before .before .before .before .before .before .before .before .before .before .before .before .before .before .before .before .before .before .before .before .before .before .before .before .before .before .loop in
     let g = l .inv .5 in
-    let a = c .before .before .before .before .before .before .before .before .before .before .before .before .before .before .before .before .before .before .before .before .before .before .before .before .before .before .before .before .before .before .before .before .before .before .before .before .before .args in
+    let a = c .before .before .before .before .before .before .before .before .before .before .before .before .before .before .before .before .before .before .before .before .before .before .before .before .before .before .before .before .before .before .before .before .before .before .before .before .before .before .args in
     let tried = c .before .before .before .before .before .before .before .before .before .before .before .try-ahead in
     let back = tried .last .1 .1 .1 .1 .1 .1 .1 .1 .0 in
     let out₁ = putMid (l .used) (length (l .out) - l .used) (l .out) back in
@@ -397,11 +476,11 @@ part-step-ahead-end c =
 
 step-ahead-requires : tie.Need-step-ahead-requires Inv-loop μ-loop
 step-ahead-requires c κs =
-    let l = c .before .before .before .before .before .before .before .before .before .before .before .before .before .before .before .before .before .before .before .before .before .before .before .before .before .before .before .before .loop in
+    let l = c .before .before .before .before .before .before .before .before .before .before .before .before .before .before .before .before .before .before .before .before .before .before .before .before .before .before .before .before .before .loop in
     let g = l .inv .5 in
-    let a = c .before .before .before .before .before .before .before .before .before .before .before .before .before .before .before .before .before .before .before .before .before .before .before .before .before .before .before .before .before .before .before .before .before .before .before .before .before .before .args in
+    let a = c .before .before .before .before .before .before .before .before .before .before .before .before .before .before .before .before .before .before .before .before .before .before .before .before .before .before .before .before .before .before .before .before .before .before .before .before .before .before .before .args in
     let tried = c .before .before .before .before .before .before .before .before .before .before .before .before .try-ahead in
-    let left = leb-true outputBytes (length (l .out) - l .used) (c .before .before .before .before .before .before .before .before .before .before .before .before .before .before .before .before .before .before .before .before .before .before .before .before .before .before .if1 .taken) in
+    let left = leb-true outputBytes (length (l .out) - l .used) (c .before .before .before .before .before .before .before .before .before .before .before .before .before .before .before .before .before .before .before .before .before .before .before .before .before .before .before .if1 .taken) in
     let back = tried .last .1 .1 .1 .1 .1 .1 .1 .1 .0 in
     let out₁ = putMid (l .used) (length (l .out) - l .used) (l .out) back in
     let long : length out₁ ≡ length (l .out) = back-length (l .used) (l .out) back (g .room) (tried .kept .1 .1 .1 .1 .1 .1 .1 .1 .0) in
@@ -415,14 +494,14 @@ step-ahead-requires c κs =
       g .ready,
     )
 
-add-used-4 : tie.Need-add-used-4 Inv-loop μ-loop
-add-used-4 c =
-    let l = c .before .before .before .before .before .before .before .before .before .before .before .before .before .before .before .before .before .before .before .before .before .before .before .before .before .before .before .before .before .before .before .before .before .before .before .before .before .before .before .before .before .before .before .loop in
+add-used-5 : tie.Need-add-used-5 Inv-loop μ-loop
+add-used-5 c =
+    let l = c .before .before .before .before .before .before .before .before .before .before .before .before .before .before .before .before .before .before .before .before .before .before .before .before .before .before .before .before .before .before .before .before .before .before .before .before .before .before .before .before .before .before .before .before .loop in
     let g = l .inv .5 in
-    let a = c .before .before .before .before .before .before .before .before .before .before .before .before .before .before .before .before .before .before .before .before .before .before .before .before .before .before .before .before .before .before .before .before .before .before .before .before .before .before .before .before .before .before .before .before .before .before .before .before .before .before .before .before .before .args in
-    let nl = c .before .before .before .before .before .before .before .before .before .before .before .before .before .before .before .before .before .before .before .before .before .before .before .before .before .before .before .before .before .before .before .before .before .before .before .before .before .before .before .next-line in
+    let a = c .before .before .before .before .before .before .before .before .before .before .before .before .before .before .before .before .before .before .before .before .before .before .before .before .before .before .before .before .before .before .before .before .before .before .before .before .before .before .before .before .before .before .before .before .before .before .before .before .before .before .before .before .before .before .args in
+    let nl = c .before .before .before .before .before .before .before .before .before .before .before .before .before .before .before .before .before .before .before .before .before .before .before .before .before .before .before .before .before .before .before .before .before .before .before .before .before .before .before .before .next-line in
     let tried = c .before .before .before .before .before .before .before .before .before .before .before .before .before .before .before .before .before .before .before .before .before .before .before .before .before .before .before .try-ahead in
-    let left = leb-true outputBytes (length (l .out) - l .used) (c .before .before .before .before .before .before .before .before .before .before .before .before .before .before .before .before .before .before .before .before .before .before .before .before .before .before .before .before .before .before .before .before .before .before .before .before .before .before .before .before .before .if1 .taken) in
+    let left = leb-true outputBytes (length (l .out) - l .used) (c .before .before .before .before .before .before .before .before .before .before .before .before .before .before .before .before .before .before .before .before .before .before .before .before .before .before .before .before .before .before .before .before .before .before .before .before .before .before .before .before .before .before .if1 .taken) in
     let back = tried .last .1 .1 .1 .1 .1 .1 .1 .1 .0 in
     let out₁ = putMid (l .used) (length (l .out) - l .used) (l .out) back in
     let long : length out₁ ≡ length (l .out) = back-length (l .used) (l .out) back (g .room) (tried .kept .1 .1 .1 .1 .1 .1 .1 .1 .0) in
@@ -433,21 +512,21 @@ add-used-4 c =
     let few = turn-count (a .file .now) (a .c) (sessionAt (a .s .day) (a .s .rows) (a .opens .now) (a .reserves .now) (a .helds .now)) (take (a .held) (a .line .now)) (a .bytes .now) (l .line) (l .out) (l .opens) (l .reserves) (l .helds) (l .day) (l .rows) (l .kept) (l .at) (l .used) g (nl .result) (nl .last .0) (nl .ensures)
     out₁ (back-front (l .used) (l .out) back (g .room) (tried .kept .1 .1 .1 .1 .1 .1 .1 .1 .0)) part enough (stepped .result .day) (stepped .result .rows)
     (stepped .last .1 .1 .1 .1 .1 .1 .1 .1 .0) (stepped .last .1 .1 .1 .1 .1 .1 .1 .1 .1 .0) (stepped .last .1 .1 .1 .1 .1 .1 .1 .1 .1 .1 .0) answer (stepped .result .length) (stepped .ensures .step) in
-    record { fits = omega (arith, few, left, g .room, l .inv .4, c .before .before .before .before .before .before .before .before .before .before .before .before .before .before .before .before .before .before .before .before .before .before .before .before .before .before .before .before .before .before .before .before .before .before .before .before .before .before .before .before .before .before .before .before .before .before .before .before .before .before .before .before .before .good) }
+    record { fits = omega (arith, few, left, g .room, l .inv .4, c .before .before .before .before .before .before .before .before .before .before .before .before .before .before .before .before .before .before .before .before .before .before .before .before .before .before .before .before .before .before .before .before .before .before .before .before .before .before .before .before .before .before .before .before .before .before .before .before .before .before .before .before .before .before .good) }
 
-loop-less-5 : tie.Need-loop-less-5 Inv-loop μ-loop
-loop-less-5 c =
-    let took = c .before .before .before .before .before .before .before .before .before .before .before .before .before .before .before .before .before .before .before .before .before .before .before .before .before .before .before .before .before .before .before .before .before .before .before .before .before .before .before .next-line .ensures in
+loop-less-6 : tie.Need-loop-less-6 Inv-loop μ-loop
+loop-less-6 c =
+    let took = c .before .before .before .before .before .before .before .before .before .before .before .before .before .before .before .before .before .before .before .before .before .before .before .before .before .before .before .before .before .before .before .before .before .before .before .before .before .before .before .before .next-line .ensures in
     omega (arith, took .moved, took .within)
 
-loop-again-5 : tie.Need-loop-again-5 Inv-loop μ-loop
-loop-again-5 c =
-    let l = c .before .before .before .before .before .before .before .before .before .before .before .before .before .before .before .before .before .before .before .before .before .before .before .before .before .before .before .before .before .before .before .before .before .before .before .before .before .before .before .before .before .before .before .loop in
+loop-again-6 : tie.Need-loop-again-6 Inv-loop μ-loop
+loop-again-6 c =
+    let l = c .before .before .before .before .before .before .before .before .before .before .before .before .before .before .before .before .before .before .before .before .before .before .before .before .before .before .before .before .before .before .before .before .before .before .before .before .before .before .before .before .before .before .before .before .loop in
     let g = l .inv .5 in
-    let a = c .before .before .before .before .before .before .before .before .before .before .before .before .before .before .before .before .before .before .before .before .before .before .before .before .before .before .before .before .before .before .before .before .before .before .before .before .before .before .before .before .before .before .before .before .before .before .before .before .before .before .before .before .before .args in
-    let nl = c .before .before .before .before .before .before .before .before .before .before .before .before .before .before .before .before .before .before .before .before .before .before .before .before .before .before .before .before .before .before .before .before .before .before .before .before .before .before .before .next-line in
+    let a = c .before .before .before .before .before .before .before .before .before .before .before .before .before .before .before .before .before .before .before .before .before .before .before .before .before .before .before .before .before .before .before .before .before .before .before .before .before .before .before .before .before .before .before .before .before .before .before .before .before .before .before .before .before .before .args in
+    let nl = c .before .before .before .before .before .before .before .before .before .before .before .before .before .before .before .before .before .before .before .before .before .before .before .before .before .before .before .before .before .before .before .before .before .before .before .before .before .before .before .before .next-line in
     let tried = c .before .before .before .before .before .before .before .before .before .before .before .before .before .before .before .before .before .before .before .before .before .before .before .before .before .before .before .try-ahead in
-    let left = leb-true outputBytes (length (l .out) - l .used) (c .before .before .before .before .before .before .before .before .before .before .before .before .before .before .before .before .before .before .before .before .before .before .before .before .before .before .before .before .before .before .before .before .before .before .before .before .before .before .before .before .before .if1 .taken) in
+    let left = leb-true outputBytes (length (l .out) - l .used) (c .before .before .before .before .before .before .before .before .before .before .before .before .before .before .before .before .before .before .before .before .before .before .before .before .before .before .before .before .before .before .before .before .before .before .before .before .before .before .before .before .before .before .if1 .taken) in
     let back = tried .last .1 .1 .1 .1 .1 .1 .1 .1 .0 in
     let out₁ = putMid (l .used) (length (l .out) - l .used) (l .out) back in
     let long : length out₁ ≡ length (l .out) = back-length (l .used) (l .out) back (g .room) (tried .kept .1 .1 .1 .1 .1 .1 .1 .1 .0) in
@@ -470,7 +549,7 @@ loop-again-5 c =
       turn-line (a .file .now) (a .c) (sessionAt (a .s .day) (a .s .rows) (a .opens .now) (a .reserves .now) (a .helds .now)) (take (a .held) (a .line .now)) (a .bytes .now) (l .line) (l .out) (l .opens) (l .reserves) (l .helds) (l .day) (l .rows) (l .kept) (l .at) (l .used) g (nl .result) (nl .last .0) (nl .ensures)
           out₁ (back-front (l .used) (l .out) back (g .room) (tried .kept .1 .1 .1 .1 .1 .1 .1 .1 .0)) part enough (stepped .result .day) (stepped .result .rows)
           (stepped .last .1 .1 .1 .1 .1 .1 .1 .1 .0) (stepped .last .1 .1 .1 .1 .1 .1 .1 .1 .1 .0) (stepped .last .1 .1 .1 .1 .1 .1 .1 .1 .1 .1 .0) answer (stepped .result .length) (stepped .ensures .step)
-          (not-false (nl .result .ended) (c .before .before .before .before .before .before .before .before .before .before .before .before .before .before .before .before .before .before .before .before .before .before .before .before .before .before .before .before .before .before .before .before .before .before .before .if2 .left)) out′ (tail-back (l .used) out₁ answer) fits,
+          (not-false (nl .result .ended) (c .before .before .before .before .before .before .before .before .before .before .before .before .before .before .before .before .before .before .before .before .before .before .before .before .before .before .before .before .before .before .before .before .before .before .before .before .if2 .left)) out′ (tail-back (l .used) out₁ answer) fits,
       stepped .kept .1 .1 .1 .1 .1 .0 ∙ l .inv .6,
       stepped .kept .1 .1 .1 .1 .1 .1 .0 ∙ l .inv .7,
       stepped .kept .1 .1 .1 .1 .1 .1 .1 .0 ∙ tried .kept .1 .1 .1 .1 .1 .1 .1 .0 ∙ l .inv .8,
@@ -536,6 +615,14 @@ serve-bytes-spec =
     next-line-requires
     loop-less
     loop-again
+    enum-told
+    sub-step-bad
+    part-step-bad-start
+    part-step-bad-end
+    step-bad-requires
+    add-used
+    loop-less-2
+    loop-again-2
     order-of-requires
     enum-known-order
     slice-aggregate-step-book
@@ -546,9 +633,9 @@ serve-bytes-spec =
     step-book-requires
     mul-rows
     array-set-from-rows
-    add-used
-    loop-less-2
-    loop-again-2
+    add-used-2
+    loop-less-3
+    loop-again-3
     enum-known-order-2
     slice-aggregate-step-drop
     sub-step-drop
@@ -556,9 +643,10 @@ serve-bytes-spec =
     part-step-drop-end
     step-drop-requires
     without-requires
-    add-used-2
-    loop-less-3
-    loop-again-3
+    add-used-3
+    loop-less-4
+    loop-again-4
+    enum-told-2
     slice-aggregate-try-ahead
     slice-aggregate-try-ahead-2
     slice-aggregate-try-ahead-3
@@ -566,9 +654,9 @@ serve-bytes-spec =
     part-try-ahead-start
     part-try-ahead-end
     try-ahead-requires
-    add-used-3
-    loop-less-4
-    loop-again-4
+    add-used-4
+    loop-less-5
+    loop-again-5
     slice-aggregate-step-ahead
     slice-aggregate-step-ahead-2
     slice-aggregate-step-ahead-3
@@ -576,9 +664,9 @@ serve-bytes-spec =
     part-step-ahead-start
     part-step-ahead-end
     step-ahead-requires
-    add-used-4
-    loop-less-5
-    loop-again-5
+    add-used-5
+    loop-less-6
+    loop-again-6
     same-length
     same-length-2
     same-length-3
