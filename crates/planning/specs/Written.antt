@@ -13,7 +13,7 @@ use Rattle.retrieval.specs.JustInTime.{due, justInTime}
 use Rattle.retrieval.specs.Carry.{carry, profile}
 use Rattle.retrieval.specs.CarryLaws.{due-carry}
 use Rattle.retrieval.specs.Sheet.{onto, plus}
-use Rattle.retrieval.specs.SheetLaws.{length-onto, onto-write}
+use Rattle.retrieval.specs.SheetLaws.{length-onto, onto-write, plus-at}
 use Rattle.retrieval.specs.Stored.{maxHeld, sendsAt, length-sendsAt}
 
 -- what a film has sent before each of its rounds, C(t-1)
@@ -61,13 +61,6 @@ totals-held b c (x ∷ xs) =
     let e : x + carry b xs + c ≡ due b c x xs = omega (arith, due-carry b c x xs) in
     rw (e, totals-held b (c + x) xs)
 
--- each place of two lists added
-pub plus-at : (l hs : List ℕ) (t : ℕ) → t < length l → t < length hs → getD (plus l hs) t 0 ≡ getD l t 0 + getD hs t 0
-plus-at [] hs t h k = absurd (not-suc-le-zero h)
-plus-at (x ∷ l) [] t h k = absurd (not-suc-le-zero k)
-plus-at (x ∷ l) (y ∷ hs) zero h k = refl
-plus-at (x ∷ l) (y ∷ hs) (suc t) h k = plus-at l hs t (le-of-suc-le-suc h) (le-of-suc-le-suc k)
-
 -- nothing is sent before the first round that shows
 pub none-sent : (p : ℕ) (xs l : List ℕ) (m : ℕ) → p ≤ m → take p (plus l (take m (0 ∷ totals 0 (sends p xs)))) ≡ take p l
 none-sent zero xs l m h = refl
@@ -95,18 +88,13 @@ module _ (held s : List ℕ) (at n p : ℕ) where
   length-totalsOf h =
       length-onto (λ x y. x + y) (take (p + n) held) (sentBefore (sendsAt s at n p)) ∙ length-take-le (p + n) held (h .places)
 
-  length-before : length (sentBefore (sendsAt s at n p)) ≡ p + n
-  length-before =
-      let t = length-totals 0 (sendsAt s at n p) in
-      length-take-le (length (sendsAt s at n p)) (0 ∷ totals 0 (sendsAt s at n p)) (omega arith) ∙ long
-
   pub totalsOf-at : (t : ℕ) → Holds held s at n p → t < p + n
       → getD (totalsOf held s at n p) t 0 ≡ getD held t 0 + getD (0 ∷ totals 0 (sendsAt s at n p)) t 0
   totalsOf-at t h u =
       let l = length-take-le (p + n) held (h .places) in
       let e = getD-take (p + n) held t 0 u in
       let d = getD-take (length (sendsAt s at n p)) (0 ∷ totals 0 (sendsAt s at n p)) t 0 (omega (arith, long)) in
-      let b = plus-at (take (p + n) held) (sentBefore (sendsAt s at n p)) t (omega arith) (omega (arith, length-before)) in
+      let b = plus-at (take (p + n) held) (sentBefore (sendsAt s at n p)) t (omega arith) in
       omega arith
 
   -- the rounds before the first that shows are copied

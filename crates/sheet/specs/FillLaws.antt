@@ -36,14 +36,6 @@ pub total-take : (g : Stream → ℕ) (xs : List Stream) (i : ℕ) (d : Stream) 
 total-take g xs i d h =
     rw (add-one, take-suc xs i d) (omega (arith, total-append g (take i xs) (getD xs i d ∷ [])))
 
-pub all-append : {A : Type 0} (g : A → Bool) (l m : List A) → all g (l ++ m) ≡ all g l && all g m
-all-append g [] m = refl
-all-append g (a ∷ l) m = go (g a) (all-append g l m)
-  where
-    go : (v : Bool) → all g (l ++ m) ≡ all g l && all g m → v && all g (l ++ m) ≡ (v && all g l) && all g m
-    go true e = e
-    go false e = refl
-
 pub all-same : {A B : Type 0} (g : A → Bool) (h : B → Bool) (l : List A) (m : List B) (d : A) (d′ : B) → length l ≡ length m
     → ((i : ℕ) → i < length l → g (getD l i d) ≡ h (getD m i d′)) → all g l ≡ all h m
 all-same g h [] [] d d′ e f = refl
