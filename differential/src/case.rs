@@ -68,7 +68,7 @@ impl Case {
         case
     }
 
-    /// Lists of new lengths, with garbage wherever nothing stands; a sheet's list may be all 0.
+    /// Lists of new lengths, with garbage wherever nothing stands.
     pub fn set_lists(&mut self, random: &mut Random) {
         let count = self.day.count as usize;
         self.records.truncate(count);
@@ -89,12 +89,7 @@ impl Case {
             &mut self.sheet.held,
         ] {
             let places = rounds + random.pick(&[0, 0, 1, 2, 1_000]);
-            // zeros, as after a restart
-            *list = if random.once_in(4) {
-                vec![0; places]
-            } else {
-                garbage_list(random, places)
-            };
+            *list = lent_list(random, list, places);
         }
         let lines = random.below(4) as usize;
         self.set_report(random, self.open_films() + lines);
@@ -264,6 +259,29 @@ impl Case {
             }
         }
     }
+}
+
+/// A list of a sheet as a call may be lent it: zeros, as after a restart; numbers below 2^32, as of another day; what stood there
+/// before; or anything. One place may be another number.
+fn lent_list(random: &mut Random, before: &[u64], places: usize) -> Vec<u64> {
+    let mut list = match random.below(4) {
+        0 => vec![0; places],
+        1 => garbage_list(random, places),
+        2 => {
+            let wide = garbage_list(random, places);
+            wide.into_iter().map(|number| number >> 32).collect()
+        }
+        _ => {
+            let mut list = before.to_vec();
+            list.resize(places, 0);
+            list
+        }
+    };
+    if places > 0 && random.once_in(3) {
+        let place = random.below(places as u64) as usize;
+        list[place] = random.pick(&[0, 1, u64::from(u32::MAX), 1 << 32]);
+    }
+    list
 }
 
 /// Numbers that nothing worked out.

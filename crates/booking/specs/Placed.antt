@@ -31,8 +31,10 @@ use Rattle.model.specs.declared.Answer.the-variants.{Refused, Booked}
 use Rattle.load.specs.Stream.{noStream, lengthOf, profileOf}
 use Rattle.load.specs.Basic.{Playable, Within, EachOf}
 use Rattle.load.specs.declared.stream.Stream.{Stream}
-use Rattle.sheet.specs.Memory.{Agrees, Settled}
-use Rattle.sheet.specs.SettleLaws.{settled-restored, settled-length}
+use Rattle.sheet.specs.Memory.{Agrees}
+use Rattle.sheet.specs.Packed.{lentOf, Settled}
+use Rattle.sheet.specs.PackedLaws.{settled-length}
+use Rattle.sheet.specs.declared.packed.Packed.{Packed}
 use Rattle.sheet.specs.Sheet.{Laid, Lays, Places, Raises, Raised}
 use Rattle.sheet.specs.LaidLaws.{length-worked, laid-raises, laid-raised}
 use Rattle.search.specs.Fit.{queryOf, startAt, fitsAt, answerOf, Window}
@@ -78,21 +80,20 @@ leaves-refused f day rows places q o r h n e k =
     go (suc m) j = record { answer = refl; day = refl; rows = refl; opens = refl; reserves = refl; helds = refl }
 
 -- the list by round is looked at no further than its length
-pub asks-lent : (f : List ℕ) (day : Day) (rows : List Booking) (places : ℕ) (q : Request) (o r : ℕ) (h lent : List ℕ) (blank : Bool)
-    → Settled blank (day .rounds) lent h
+pub asks-lent : (f : List ℕ) (day : Day) (rows : List Booking) (places : ℕ) (q : Request) (o r : ℕ) (h lent : List ℕ) (p : Packed)
+    → Settled p (day .rounds) lent h
     → refusal (bookAsks f day rows places q o r (length h)) ≡ refusal (bookAsks f day rows places q o r (length lent))
-asks-lent f day rows places q o r h lent blank g =
-    ap (λ (m : ℕ). refusal (bookAsks f day rows places q o r m)) (settled-length blank (day .rounds) lent h g)
+asks-lent f day rows places q o r h lent p g =
+    ap (λ (m : ℕ). refusal (bookAsks f day rows places q o r m)) (settled-length p (day .rounds) lent h g)
 
--- nothing changes where that list was written by the questions and zeroed again
-pub leaves-restored : (f : List ℕ) (day : Day) (rows : List Booking) (places : ℕ) (q : Request) (o r h lent l : List ℕ) (blank : Bool) (n : ℕ)
-    → Settled blank (day .rounds) lent h
-    → ((blank ≡ true → l ≡ replicate (day .rounds) 0 ++ drop (day .rounds) h) × (blank ≡ false → l ≡ h))
+-- nothing changes where that list was packed by the questions and the numbers lent are put back
+pub leaves-restored : (f : List ℕ) (day : Day) (rows : List Booking) (places : ℕ) (q : Request) (o r h lent l : List ℕ) (p : Packed) (n : ℕ)
+    → Settled p (day .rounds) lent h → l ≡ lentOf p h
     → n ≡ refusal (bookAsks f day rows places q (length o) (length r) (length h)) → (n ≡ 0 → ⊥)
     → Leaves (settingAt f day) (bookCall (settingAt f day) (stateOf day rows places o r lent) q) (Refused n) day rows o r l
-leaves-restored f day rows places q o r h lent l blank n g k e z =
-    rw (settled-restored blank (day .rounds) lent h l g k)
-    (leaves-refused f day rows places q o r lent n (e ∙ asks-lent f day rows places q (length o) (length r) h lent blank g) z)
+leaves-restored f day rows places q o r h lent l p n g k e z =
+    rw (k ∙ sym (g .lent))
+    (leaves-refused f day rows places q o r lent n (e ∙ asks-lent f day rows places q (length o) (length r) h lent p g) z)
 
 -- nor where it was not written
 pub leaves-left : (f : List ℕ) (day : Day) (rows : List Booking) (places : ℕ) (q : Request) (o r h l : List ℕ) (n : ℕ) → l ≡ h

@@ -32,9 +32,10 @@ use Rattle.load.specs.Stream.{lengthOf, profileOf}
 use Rattle.table.specs.Streams.{streams}
 use Rattle.table.specs.Table.{Tabled}
 use Rattle.load.specs.declared.stream.Stream.{Stream}
-use Rattle.sheet.specs.Memory.{Settled}
+use Rattle.sheet.specs.Packed.{heldsOf, Settled}
 use Rattle.sheet.specs.Sheet.{Laid, Raises, Raised}
-use Rattle.sheet.specs.SettleLaws.{settled-laid}
+use Rattle.sheet.specs.PackedLaws.{unpacked-length, unpacked-laid}
+use Rattle.sheet.specs.declared.packed.Packed.{Packed}
 use Rattle.sheet.specs.LaidLaws.{length-worked}
 use Rattle.search.specs.Fit.{Query, queryOf, startAt, fitsAt, answerOf, HeldRows, Window}
 use Rattle.search.specs.ProfileLaws.{profile-rows}
@@ -151,19 +152,19 @@ module _ (f : List ℕ) (day : Day) (rows : List Booking) (places : ℕ) (q : Re
             helds = k .helds ∙ again (day .rounds) _ _ h₀ h (laid .held);
           }
 
--- laid on a list by round that the questions wrote, it counts as laid on the list as it was lent
+-- laid on a list by round that the questions packed, it counts as laid on the list as it was lent
 module _ (f : List ℕ) (day : Day) (rows : List Booking) (places : ℕ) (q : Request) (xs : List Stream) (o₀ r₀ h₀ o r h : List ℕ)
     (bytes : Bytes f) (full : length rows ≡ maxBookings)
     (passed : refusal (bookAsks f day rows places q (length o₀) (length r₀) (length h₀)) ≡ 0)
-    (made : StreamsOf (catalogueOf f) (day .count) rows xs) (laid : Laid f (take (day .count) xs) (day .rounds) o₀ r₀ h₀ o r h) (lent : List ℕ)
-    (blank : Bool) (g : Settled blank (day .rounds) lent h₀) where
+    (made : StreamsOf (catalogueOf f) (day .count) rows xs) (laid : Laid f (take (day .count) xs) (day .rounds) o₀ r₀ h₀ o r h) (lent l : List ℕ)
+    (p : Packed) (g : Settled p (day .rounds) lent l) (e : h₀ ≡ heldsOf p l) where
   pub lent-leaves : (a : Answer) (d′ : Day) (rows′ : List Booking) (o′ r′ h′ : List ℕ)
       → Leaves (settingAt f day) (bookCall (settingAt f day) (stateOf day rows places o r h) q) a d′ rows′ o′ r′ h′
       → Leaves (settingAt f day) (bookCall (settingAt f day) (stateOf day rows places o₀ r₀ lent) q) a d′ rows′ o′ r′ h′
   lent-leaves =
       laid-leaves f day rows places q xs o₀ r₀ lent o r h bytes full
-      (sym (asks-lent f day rows places q (length o₀) (length r₀) h₀ lent blank g) ∙ passed) made
-      (settled-laid f (take (day .count) xs) blank (day .rounds) o₀ r₀ lent h₀ o r h g laid)
+      (sym (ap (λ (m : ℕ). refusal (bookAsks f day rows places q (length o₀) (length r₀) m)) (unpacked-length p (day .rounds) lent l h₀ g e)) ∙ passed) made
+      (unpacked-laid f (take (day .count) xs) p (day .rounds) o₀ r₀ lent l h₀ o r h g e laid)
 
 -- ---- the table of the day's bookings
 

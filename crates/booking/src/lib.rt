@@ -21,7 +21,9 @@ use request::own_number;
 use request::requested;
 use search::Found;
 use search::first_start;
-use sheet::memory::restore;
+use sheet::packed::Packed;
+use sheet::packed::restore;
+use sheet::packed::settle;
 use sheet::sheet::add_stream;
 use table::streams::TABLE_WORDS;
 use table::tabulate::tabulate;
@@ -40,7 +42,7 @@ ghost use Rattle.model.specs.Fit.{FitsAt};
 ghost use Rattle.questions.specs.Given.{settingAt};
 ghost use Rattle.questions.specs.Numbers.{standingAsks};
 ghost use Rattle.questions.specs.SheetOf.{SheetKept, HeldKept};
-ghost use Rattle.sheet.specs.Memory.{Settled};
+ghost use Rattle.sheet.specs.Packed.{heldsOf, Packable, Settled};
 ghost use Rattle.table.specs.Columns.{tableWords};
 ghost use Rattle.table.specs.Streams.{streams};
 ghost use Rattle.table.specs.Table.{Tabled};
@@ -137,8 +139,8 @@ fn record_answer(day: Day, rows: [Booking; MAX_BOOKINGS], q: Request, answer: An
 
 // Booking where the file's questions, 14, 15, 11 and 16 have passed: where booking's own pass too, the sheet of the standing bookings is laid
 // down, whatever stood there, and the request is placed on it. The table is that of the standing bookings, `opened` and `closed` have
-// the rounds in which they open and end, and where `same` the sums of bytes held are right. Where `blank` these were lent as 0 and the
-// questions wrote them: a refusal leaves nothing changed, so it zeroes them again. The request's stream is y.
+// the rounds in which they open and end, and where `same` the sums of bytes held are right, packed so with the numbers lent: a refusal
+// leaves nothing changed, so it puts these back. The request's stream is y.
 fn book_checked(
     file: &[u8],
     day: Day,
@@ -150,24 +152,25 @@ fn book_checked(
     opened: &[u64],
     closed: &[u64],
     same: bool,
-    blank: bool,
+    packed: Packed,
     opens: &mut [u64],
     reserves: &mut [u64],
     helds: &mut [u64],
 ) -> Outcome
-    requires { ⌜ (y ≡ requestOf (now file) q) × (refusal (standingAsks (now file) day rows places (length (now opens)) (length (now reserves)) (length (now helds))) ≡ 0) × Workspace (now table) (now opened) (now closed) × Tabled (catalogueOf (now file)) (take (day .count) rows) (now table) × Gathered (streams (now table)) (day .count) (now opened) (now closed) × (same ≡ true → HeldKept (settingAt (now file) day) (take (day .count) rows) (now helds)) ⌝ }
-    ensures { λ r. ⌜ ((lent : List ℕ) → Settled blank (day .rounds) lent (now (helds .entry)) → Leaves (settingAt (now (file .entry)) day) (bookCall (settingAt (now (file .entry)) day) (stateOf day rows places (now (opens .entry)) (now (reserves .entry)) lent) q) (r .answer) (r .day) (r .rows) (now (opens .exit)) (now (reserves .exit)) (now (helds .exit))) ⌝ }
+    requires { ⌜ (y ≡ requestOf (now file) q) × (refusal (standingAsks (now file) day rows places (length (now opens)) (length (now reserves)) (length (now helds))) ≡ 0) × Workspace (now table) (now opened) (now closed) × Tabled (catalogueOf (now file)) (take (day .count) rows) (now table) × Gathered (streams (now table)) (day .count) (now opened) (now closed) × (same ≡ true → HeldKept (settingAt (now file) day) (take (day .count) rows) (heldsOf packed (now helds))) × Packable packed (now helds) ⌝ }
+    ensures { λ r. ⌜ ((lent : List ℕ) → Settled packed (day .rounds) lent (now (helds .entry)) → Leaves (settingAt (now (file .entry)) day) (bookCall (settingAt (now (file .entry)) day) (stateOf day rows places (now (opens .entry)) (now (reserves .entry)) lent) q) (r .answer) (r .day) (r .rows) (now (opens .exit)) (now (reserves .exit)) (now (helds .exit))) ⌝ }
 {
     let mut profile = [0u64; MAX_LENGTH];
     let number = own_number(file, day, table, places, q, y, &mut profile);
     if number != 0 {
-        restore(blank, day.rounds as usize, helds);
+        restore(packed, helds);
         return Outcome {
             answer: Answer::Refused(number),
             day,
             rows,
         };
     }
+    settle(packed, helds);
     lay_checked(
         file,
         table,
@@ -289,7 +292,7 @@ pub fn book(
         };
     }
     let same = examined.same;
-    let blank = examined.blank;
+    let packed = examined.packed;
     book_checked(
         file,
         day,
@@ -301,7 +304,7 @@ pub fn book(
         &opened,
         &closed,
         same,
-        blank,
+        packed,
         opens,
         reserves,
         helds,

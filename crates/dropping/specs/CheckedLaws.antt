@@ -25,10 +25,12 @@ use Rattle.load.specs.Basic.{EachOf}
 use Rattle.table.specs.Columns.{tableWords}
 use Rattle.table.specs.Streams.{streams}
 use Rattle.table.specs.Table.{Tabled}
-use Rattle.sheet.specs.Memory.{Agrees, Settled}
+use Rattle.sheet.specs.Memory.{Agrees}
+use Rattle.sheet.specs.Packed.{heldsOf, lentOf, Settled}
 use Rattle.sheet.specs.Sheet.{Lays, Laid}
 use Rattle.sheet.specs.LaidLaws.{length-worked}
-use Rattle.sheet.specs.SettleLaws.{settled-restored, settled-length, settled-laid}
+use Rattle.sheet.specs.PackedLaws.{settled-length, unpacked-length, unpacked-laid}
+use Rattle.sheet.specs.declared.packed.Packed.{Packed}
 use Rattle.questions.specs.Given.{settingAt}
 use Rattle.questions.specs.Numbers.{standingAsks}
 use Rattle.questions.specs.Standing.{Standing, standing-held}
@@ -149,39 +151,38 @@ module _ (f : List ℕ) (day : Day) (rows : List Booking) (places : ℕ) (o₀ r
           helds = rw none₀ ((rw none at (k .helds)) ∙ again _ _ h₀ h (sheet .held-sums));
         }
 
--- ---- where the questions wrote the list by round
+-- ---- where the questions packed the list by round
 
 -- the questions look at it no further than its length
-pub standing-lent : (f : List ℕ) (day : Day) (rows : List Booking) (places o r : ℕ) (h lent : List ℕ) (blank : Bool) → Settled blank (day .rounds) lent h
+pub standing-lent : (f : List ℕ) (day : Day) (rows : List Booking) (places o r : ℕ) (h lent : List ℕ) (p : Packed) → Settled p (day .rounds) lent h
     → refusal (standingAsks f day rows places o r (length h)) ≡ refusal (standingAsks f day rows places o r (length lent))
-standing-lent f day rows places o r h lent blank g =
-    ap (λ (m : ℕ). refusal (standingAsks f day rows places o r m)) (settled-length blank (day .rounds) lent h g)
+standing-lent f day rows places o r h lent p g =
+    ap (λ (m : ℕ). refusal (standingAsks f day rows places o r m)) (settled-length p (day .rounds) lent h g)
 
--- a drop that is refused 19 and zeroes it again leaves everything as it was lent
-pub name-restored : (f : List ℕ) (day : Day) (rows : List Booking) (places : ℕ) (o r h lent l : List ℕ) (blank : Bool)
-    → Settled blank (day .rounds) lent h
-    → ((blank ≡ true → l ≡ replicate (day .rounds) 0 ++ drop (day .rounds) h) × (blank ≡ false → l ≡ h))
+-- a drop that is refused 19 and puts the numbers lent back leaves everything as it was lent
+pub name-restored : (f : List ℕ) (day : Day) (rows : List Booking) (places : ℕ) (o r h lent l : List ℕ) (k : Packed)
+    → Settled k (day .rounds) lent h → l ≡ lentOf k h
     → refusal (standingAsks f day rows places (length o) (length r) (length h)) ≡ 0
     → (name i : ℕ) (a : DropOutcome) → Position name rows (day .count) i → i ≡ day .count → a .answer ≡ Refused noName → a .day ≡ day → a .rows ≡ rows
     → Drops (settingAt f day) (stateOf day rows places o r lent) name a o r l
-name-restored f day rows places o r h lent l blank g k passed name i a p e x y z =
-    rw (settled-restored blank (day .rounds) lent h l g k)
+name-restored f day rows places o r h lent l k g back passed name i a p e x y z =
+    rw (back ∙ sym (g .lent))
     (name-refused f day rows places o r lent 0
-    (sym (sym (standing-lent f day rows places (length o) (length r) h lent blank g) ∙ passed)) name refl a i p e x y z)
+    (sym (sym (standing-lent f day rows places (length o) (length r) h lent k g) ∙ passed)) name refl a i p e x y z)
 
 -- a refusal that did not write it leaves it
 pub drops-left : (S : Setting) (d : State) (name : ℕ) (a : DropOutcome) (o r h l : List ℕ) → l ≡ h → Drops S d name a o r h → Drops S d name a o r l
 drops-left S d name a o r h l e k = rw e k
 
 -- a drop on a sheet that is laid on it is a drop on the lent one
-pub lent-drops : (f : List ℕ) (day : Day) (rows : List Booking) (places : ℕ) (o₀ r₀ h₀ lent : List ℕ) (blank : Bool) → Settled blank (day .rounds) lent h₀
+pub lent-drops : (f : List ℕ) (day : Day) (rows : List Booking) (places : ℕ) (o₀ r₀ h₀ lent l : List ℕ) (p : Packed) → Settled p (day .rounds) lent l → h₀ ≡ heldsOf p l
     → refusal (standingAsks f day rows places (length o₀) (length r₀) (length h₀)) ≡ 0 → day .count ≤ length rows
     → (table opened closed : List ℕ) (same : Bool) → Stands f day (take (day .count) rows) table opened closed same h₀
     → (o r h : List ℕ) → Laid f (take (day .count) (streams table)) (day .rounds) o₀ r₀ h₀ o r h
     → (name i : ℕ) → Position name rows (day .count) i → (i ≡ day .count → ⊥) → (a : DropOutcome) (o′ r′ h′ : List ℕ)
     → Drops (settingAt f day) (stateOf day rows places o r h) name a o′ r′ h′
     → Drops (settingAt f day) (stateOf day rows places o₀ r₀ lent) name a o′ r′ h′
-lent-drops f day rows places o₀ r₀ h₀ lent blank g passed room table opened closed same k o r h laid =
-    laid-drops f day rows places o₀ r₀ lent (sym (standing-lent f day rows places (length o₀) (length r₀) h₀ lent blank g) ∙ passed) room table opened closed
+lent-drops f day rows places o₀ r₀ h₀ lent l p g e passed room table opened closed same k o r h laid =
+    laid-drops f day rows places o₀ r₀ lent (sym (ap (λ (m : ℕ). refusal (standingAsks f day rows places (length o₀) (length r₀) m)) (unpacked-length p (day .rounds) lent l h₀ g e)) ∙ passed) room table opened closed
     false (record { tabled = k .tabled; workspace = k .workspace; events = k .events; held = λ z. absurd (true≢false (sym z)) }) o r h
-    (settled-laid f (take (day .count) (streams table)) blank (day .rounds) o₀ r₀ lent h₀ o r h g laid)
+    (unpacked-laid f (take (day .count) (streams table)) p (day .rounds) o₀ r₀ lent l h₀ o r h g e laid)

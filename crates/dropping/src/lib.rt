@@ -17,7 +17,9 @@ use model::Booking;
 use model::Day;
 use questions::laying::lay_checked;
 use questions::standing::examine;
-use sheet::memory::restore;
+use sheet::packed::Packed;
+use sheet::packed::restore;
+use sheet::packed::settle;
 use table::streams::TABLE_WORDS;
 use table::tabulate::tabulate;
 ghost use mathlib.Core.Path.{_≡_};
@@ -30,7 +32,7 @@ ghost use Rattle.model.specs.Code.{stateOf};
 ghost use Rattle.questions.specs.Given.{settingAt};
 ghost use Rattle.questions.specs.Numbers.{standingAsks};
 ghost use Rattle.questions.specs.SheetOf.{SheetKept};
-ghost use Rattle.sheet.specs.Memory.{Settled};
+ghost use Rattle.sheet.specs.Packed.{heldsOf, Packable, Settled};
 ghost use Rattle.dropping.specs.Contract.{Drops, DropsAt};
 ghost use Rattle.dropping.specs.Standing.{Stands};
 ghost use Rattle.dropping.specs.Taking.{maxLength};
@@ -142,8 +144,8 @@ fn smaller(a: usize, b: usize) -> usize
 }
 
 // The drop where the file's questions, 14, 15, 11 and 16 have passed, and the table, `opened`, `closed` and `same` are what they were
-// asked with and left: the sheet of the standing bookings is laid down, and the dropped one's stream taken out. Where `blank` the sums of
-// bytes held were lent as 0 and the questions wrote them: a refusal leaves nothing changed, so it zeroes them again.
+// asked with and left: the sheet of the standing bookings is laid down, and the dropped one's stream taken out. The sums of
+// bytes held are packed so with the numbers lent: a refusal leaves nothing changed, so it puts these back.
 fn drop_checked(
     file: &[u8],
     c: Catalogue,
@@ -155,24 +157,25 @@ fn drop_checked(
     opened: &[u64],
     closed: &[u64],
     same: bool,
-    blank: bool,
+    packed: Packed,
     opens: &mut [u64],
     reserves: &mut [u64],
     helds: &mut [u64],
 ) -> DropOutcome
-    requires { ⌜ (c ≡ catalogueOf (now file)) × (refusal (standingAsks (now file) day rows places (length (now opens)) (length (now reserves)) (length (now helds))) ≡ 0) × Stands (now file) day (take (day .count) rows) (now table) (now opened) (now closed) same (now helds) ⌝ }
-    ensures { λ r. ⌜ ((lent : List ℕ) → Settled blank (day .rounds) lent (now (helds .entry)) → Drops (settingAt (now (file .entry)) day) (stateOf day rows places (now (opens .entry)) (now (reserves .entry)) lent) name r (now (opens .exit)) (now (reserves .exit)) (now (helds .exit))) ⌝ }
+    requires { ⌜ (c ≡ catalogueOf (now file)) × (refusal (standingAsks (now file) day rows places (length (now opens)) (length (now reserves)) (length (now helds))) ≡ 0) × Stands (now file) day (take (day .count) rows) (now table) (now opened) (now closed) same (heldsOf packed (now helds)) × Packable packed (now helds) ⌝ }
+    ensures { λ r. ⌜ ((lent : List ℕ) → Settled packed (day .rounds) lent (now (helds .entry)) → Drops (settingAt (now (file .entry)) day) (stateOf day rows places (now (opens .entry)) (now (reserves .entry)) lent) name r (now (opens .exit)) (now (reserves .exit)) (now (helds .exit))) ⌝ }
 {
     let count = day.count as usize;
     let i = position(rows, count, name);
     if i == count {
-        restore(blank, day.rounds as usize, helds);
+        restore(packed, helds);
         return DropOutcome {
             answer: Answer::Refused(NO_NAME),
             day,
             rows,
         };
     }
+    settle(packed, helds);
     lay_checked(
         file,
         table,
@@ -234,7 +237,7 @@ pub fn drop_booking(
         };
     }
     let same = examined.same;
-    let blank = examined.blank;
+    let packed = examined.packed;
     drop_checked(
         file,
         c,
@@ -246,7 +249,7 @@ pub fn drop_booking(
         &opened,
         &closed,
         same,
-        blank,
+        packed,
         opens,
         reserves,
         helds,

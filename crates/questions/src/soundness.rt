@@ -5,6 +5,7 @@ use model::Day;
 use segments::disk::disk_kept;
 use sheet::memory::Checked;
 use sheet::memory::held_within;
+use sheet::packed::Packed;
 use table::sound::all_basic;
 use table::sound::names_differ;
 use table::sound::pairs_clear;
@@ -17,24 +18,25 @@ ghost use Rattle.films.specs.Questions.{verdict};
 ghost use Rattle.load.specs.Basic.{Playable, Within, EachOf};
 ghost use Rattle.table.specs.Columns.{tableWords};
 ghost use Rattle.table.specs.Streams.{streams};
-ghost use Rattle.sheet.specs.Memory.{Agrees, Settled};
+ghost use Rattle.sheet.specs.Memory.{Agrees};
+ghost use Rattle.sheet.specs.Packed.{heldsOf, Settled};
 ghost use Rattle.questions.specs.Events.{Gathered};
 ghost use Rattle.questions.specs.Sound.{streamsSound};
 ghost use Rattle.questions.specs.Listed.{Listed, Workspace, TellsSound, TellsHolds};
 
 // An answer that is no.
 fn unsound() -> Checked
-    ensures { λ r. ⌜ (r .kept ≡ false) × (r .same ≡ false) × (r .blank ≡ false) ⌝ }
+    ensures { λ r. ⌜ (r .kept ≡ false) × (r .same ≡ false) × (r .packed .bits ≡ 0) × (r .packed .rounds ≡ 0) ⌝ }
 {
     Checked {
         kept: false,
         same: false,
-        blank: false,
+        packed: Packed { bits: 0, rounds: 0 },
     }
 }
 
 // Whether no cab shows two films, every round keeps both limits, and each stream has a schedule; and whether `helds` has what
-// they hold by round, which is written there where it is blank.
+// they hold by round, which may be packed with the numbers lent.
 fn streams_sound(
     file: &[u8],
     table: &[u64],
@@ -47,8 +49,8 @@ fn streams_sound(
     helds: &mut [u64],
 ) -> Checked
     requires { ⌜ (tableWords ≤ length (now table)) × (count ≤ maxBookings) × EachOf (Playable (now file)) count (streams (now table)) × EachOf (Within rounds) count (streams (now table)) × Gathered (streams (now table)) count (now opened) (now closed) × (count ≤ length (now opened)) × (count ≤ length (now closed)) ⌝ }
-    ensures { λ r. ⌜ ((r .kept ≡ streamsSound (now (file .entry)) rounds disk memory (take count (streams (now (table .entry))))) × (r .same ≡ true → Agrees (now (file .entry)) (take count (streams (now (table .entry)))) (now (helds .exit)) 0 rounds)) ⌝ }
-    ensures { λ r. ⌜ (Settled (r .blank) rounds (now (helds .entry)) (now (helds .exit)) × (r .kept ≡ false → r .blank ≡ false)) ⌝ }
+    ensures { λ r. ⌜ ((r .kept ≡ streamsSound (now (file .entry)) rounds disk memory (take count (streams (now (table .entry))))) × (r .same ≡ true → Agrees (now (file .entry)) (take count (streams (now (table .entry)))) (heldsOf (r .packed) (now (helds .exit))) 0 rounds)) ⌝ }
+    ensures { λ r. ⌜ (Settled (r .packed) rounds (now (helds .entry)) (now (helds .exit)) × (r .kept ≡ false → r .packed .rounds ≡ 0)) ⌝ }
 {
     if !pairs_clear(table, count) {
         return unsound();
@@ -71,9 +73,9 @@ fn sound_list(
     helds: &mut [u64],
 ) -> Checked
     requires { ⌜ (verdict (now file) ≡ 0) × (count ≤ maxBookings) × (day .rounds ≤ maxDay) × Workspace (now table) (now opened) (now closed) × EachOf (Listed (now file)) count (streams (now table)) ⌝ }
-    ensures { λ r. ⌜ TellsSound (now (file .entry)) day (now (table .entry)) count (now (helds .exit)) r (now (opened .exit)) (now (closed .exit)) ⌝ }
+    ensures { λ r. ⌜ TellsSound (now (file .entry)) day (now (table .entry)) count (heldsOf (r .packed) (now (helds .exit))) r (now (opened .exit)) (now (closed .exit)) ⌝ }
     ensures { λ _. ⌜ Workspace (now (table .entry)) (now (opened .exit)) (now (closed .exit)) ⌝ }
-    ensures { λ r. ⌜ (Settled (r .blank) (day .rounds) (now (helds .entry)) (now (helds .exit)) × (r .kept ≡ false → r .blank ≡ false)) ⌝ }
+    ensures { λ r. ⌜ (Settled (r .packed) (day .rounds) (now (helds .entry)) (now (helds .exit)) × (r .kept ≡ false → r .packed .rounds ≡ 0)) ⌝ }
 {
     if !names_differ(table, count) {
         return unsound();
@@ -106,9 +108,9 @@ pub fn sound_holds(
     helds: &mut [u64],
 ) -> Checked
     requires { ⌜ (verdict (now file) ≡ 0) × (day .rounds ≤ maxDay) × Workspace (now table) (now opened) (now closed) × (day .count ≤ maxBookings → EachOf (Listed (now file)) (day .count) (streams (now table))) ⌝ }
-    ensures { λ r. ⌜ TellsHolds (now (file .entry)) day (now (table .entry)) places (now (helds .exit)) r (now (opened .exit)) (now (closed .exit)) ⌝ }
+    ensures { λ r. ⌜ TellsHolds (now (file .entry)) day (now (table .entry)) places (heldsOf (r .packed) (now (helds .exit))) r (now (opened .exit)) (now (closed .exit)) ⌝ }
     ensures { λ _. ⌜ Workspace (now (table .entry)) (now (opened .exit)) (now (closed .exit)) ⌝ }
-    ensures { λ r. ⌜ (Settled (r .blank) (day .rounds) (now (helds .entry)) (now (helds .exit)) × (r .kept ≡ false → r .blank ≡ false)) ⌝ }
+    ensures { λ r. ⌜ (Settled (r .packed) (day .rounds) (now (helds .entry)) (now (helds .exit)) × (r .kept ≡ false → r .packed .rounds ≡ 0)) ⌝ }
 {
     let count = day.count;
     if (MAX_BOOKINGS as u64) < count {

@@ -8,6 +8,7 @@ use limits::refusals::DAY_ROUNDS;
 use limits::refusals::NO_ROOM;
 use limits::refusals::UNSOUND;
 use model::Day;
+use sheet::packed::Packed;
 ghost use mathlib.Core.Path.{_≡_};
 ghost use mathlib.Core.Bool.{false};
 ghost use Prim.Native.Nat.{_≤_};
@@ -15,20 +16,19 @@ ghost use Rattle.limits.specs.Bounds.{maxBookings};
 ghost use Rattle.films.specs.Questions.{verdict};
 ghost use Rattle.load.specs.Basic.{EachOf};
 ghost use Rattle.table.specs.Streams.{streams};
-ghost use Rattle.sheet.specs.Memory.{Settled};
+ghost use Rattle.sheet.specs.Packed.{heldsOf, Settled};
 ghost use Rattle.questions.specs.Listed.{Workspace, Listed, Examines};
 
-// The number of the first that says no, 0 if none does; whether a list has what the standing bookings hold by round; and whether it was
-// 0 before it was written.
+// The number of the first that says no, 0 if none does; and whether a list, packed so, has what the standing bookings hold by round.
 pub struct Examined {
     pub number: u32,
     pub same: bool,
-    pub blank: bool,
+    pub packed: Packed,
 }
 
 // The number of the first that says no, where the sheet's lists are opens, reserves and held_places places long and the table is that of
-// the day's bookings; and if none does, whether the first T places of `helds` are what the standing bookings hold: where they were all 0
-// they are written. Then `opened` and `closed` have the rounds in which they open and end.
+// the day's bookings; and if none does, whether the first T places of `helds` have what the standing bookings hold, which may be packed
+// with the numbers lent. Then `opened` and `closed` have the rounds in which they open and end.
 pub fn examine(
     file: &[u8],
     refused: u32,
@@ -43,36 +43,36 @@ pub fn examine(
     helds: &mut [u64],
 ) -> Examined
     requires { ⌜ (refused ≡ verdict (now file)) × Workspace (now table) (now opened) (now closed) × (refused ≡ 0 → day .count ≤ maxBookings → EachOf (Listed (now file)) (day .count) (streams (now table))) ⌝ }
-    ensures { λ r. ⌜ Examines (now (file .entry)) day (now (table .entry)) places opens reserves «held_places» (now (helds .exit)) r (now (opened .exit)) (now (closed .exit)) ⌝ }
+    ensures { λ r. ⌜ Examines (now (file .entry)) day (now (table .entry)) places opens reserves «held_places» (heldsOf (r .packed) (now (helds .exit))) r (now (opened .exit)) (now (closed .exit)) ⌝ }
     ensures { λ _. ⌜ Workspace (now (table .entry)) (now (opened .exit)) (now (closed .exit)) ⌝ }
-    ensures { λ r. ⌜ (Settled (r .blank) (day .rounds) (now (helds .entry)) (now (helds .exit)) × ((r .number ≡ 0 → ⊥) → r .blank ≡ false)) ⌝ }
+    ensures { λ r. ⌜ (Settled (r .packed) (day .rounds) (now (helds .entry)) (now (helds .exit)) × ((r .number ≡ 0 → ⊥) → r .packed .rounds ≡ 0)) ⌝ }
 {
     if refused != 0 {
         return Examined {
             number: refused,
             same: false,
-            blank: false,
+            packed: Packed { bits: 0, rounds: 0 },
         };
     }
     if !day_holds(day) {
         return Examined {
             number: DAY_ROUNDS,
             same: false,
-            blank: false,
+            packed: Packed { bits: 0, rounds: 0 },
         };
     }
     if !limits_hold(day.disk, day.memory) {
         return Examined {
             number: DAY_LIMITS,
             same: false,
-            blank: false,
+            packed: Packed { bits: 0, rounds: 0 },
         };
     }
     if !sheet_holds(day.rounds, opens, reserves, held_places) {
         return Examined {
             number: NO_ROOM,
             same: false,
-            blank: false,
+            packed: Packed { bits: 0, rounds: 0 },
         };
     }
     let list = sound_holds(file, day, table, places, opened, closed, helds);
@@ -80,12 +80,13 @@ pub fn examine(
         return Examined {
             number: UNSOUND,
             same: false,
-            blank: false,
+            packed: Packed { bits: 0, rounds: 0 },
         };
     }
+    let packed = list.packed;
     Examined {
         number: 0,
         same: list.same,
-        blank: list.blank,
+        packed,
     }
 }

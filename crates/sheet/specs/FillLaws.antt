@@ -12,7 +12,7 @@ use lib.Dec.{leb, eqb}
 use borrow.Author.Count.{below-more}
 use borrow.Author.Tests.{le-leb, leb-true, leb-false, eq-eqb, ne-eqb}
 use Rattle.limits.specs.Bounds.{maxBookings}
-use Rattle.laws.specs.Tests.{all, below}
+use Rattle.laws.specs.Tests.{all, below, below-at}
 use Rattle.laws.specs.Sums.{largest}
 use Rattle.retrieval.specs.Carry.{carry}
 use Rattle.retrieval.specs.JustInTime.{due, existsBy}
@@ -124,7 +124,7 @@ below-window F g w (suc n) e =
     turn false = refl
 
 -- a filled window
-pub kept-window : (f : List ℕ) (M : ℕ) (xs : List Stream) (n : ℕ) (window : List ℕ) (w e : ℕ) (carries : List ℕ) → w ≤ e
+kept-window : (f : List ℕ) (M : ℕ) (xs : List Stream) (n : ℕ) (window : List ℕ) (w e : ℕ) (carries : List ℕ) → w ≤ e
     → length window ≡ e - w → Filled f xs n window w e carries
     → memoryKept f M e (take n xs) ≡ below (length window) (λ i. leb (getD window i 0) M) && memoryKept f M w (take n xs)
 unfolding memoryKept
@@ -137,6 +137,19 @@ kept-window f M xs n window w e carries h k g =
     place i u =
         let d : w + i - w ≡ i = omega arith in
         ap (λ (v : ℕ). leb v M) (ap (λ (j : ℕ). getD window j 0) (sym d) ∙ g .held (w + i) (omega arith) (omega arith))
+
+pub window-tested : (f : List ℕ) (M : ℕ) (xs : List Stream) (n : ℕ) (window : List ℕ) (w e : ℕ) (carries : List ℕ) → w ≤ e
+    → length window ≡ e - w → Filled f xs n window w e carries
+    → WindowKept f xs n M w e window carries (below (length window) (λ i. leb (getD window i 0) M))
+window-tested f M xs n window w e carries h k g =
+    record {
+      kept = kept-window f M xs n window w e carries h k g;
+      held = λ i u.
+          let d : w + i - w ≡ i = omega arith in
+          ap (λ (j : ℕ). getD window j 0) (sym d) ∙ g .held (w + i) (omega arith) (omega arith);
+      most = λ z i u. leb-true (getD window i 0) M (below-at (length window) (λ j. leb (getD window j 0) M) z i (omega arith));
+      carried = g .carried;
+    }
 
 -- the numbers of a filled window are below 2^63
 pub window-small : (f : List ℕ) (xs : List Stream) (n : ℕ) (window : List ℕ) (w e : ℕ) (carries : List ℕ) → n ≤ maxBookings
@@ -192,7 +205,7 @@ passed-none f xs n T M carries s z g =
     record { size = s; kept = refl; carried = λ i h. z i ∙ sym (carry-late f (getD xs i noStream) T (g i h)) }
 
 module _ (f : List ℕ) (xs : List Stream) (n T M : ℕ) (carries : List ℕ) (e : ℕ) (g : Passed f xs n T M carries e) where
-  module _ (w : ℕ) (left : List ℕ) (r : Bool) (a : WindowKept f xs n M w e left r) where
+  module _ (w : ℕ) (window left : List ℕ) (r : Bool) (a : WindowKept f xs n M w e window left r) where
     -- a round of the window passes the limit
     pub passed-no : r ≡ false → memoryKept f M T (take n xs) && all (feasible f) (take n xs) ≡ false
     passed-no z = let no : memoryKept f M T (take n xs) ≡ false = g .kept ∙ a .kept ∙ rw z in rw no

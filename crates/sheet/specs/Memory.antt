@@ -1,9 +1,9 @@
 -- Memory's side of a day. Document 01: "In each round .. held ≤ M".
 use mathlib.Core.Path.{_≡_}
 use mathlib.Core.Bool.{Bool, true, false, cond, _&&_}
-use mathlib.Core.List.{List, _++_}
+use mathlib.Core.List.{List}
 use Prim.Native.Nat.{ℕ, zero, suc, _+_, _-_, _*_, _^_, _≤_, _<_, min, max}
-use lib.ListN.{length, getD, take, drop, replicate}
+use lib.ListN.{length, getD, take}
 use lib.Dec.{leb, ltb}
 use Rattle.limits.specs.Bounds.{maxBookings}
 use Rattle.laws.specs.Tests.{all, below}
@@ -81,8 +81,10 @@ pub record Filled (f : List ℕ) (xs : List Stream) (n : ℕ) (window : List ℕ
   pub carried : (i : ℕ) → i < n → getD carries i 0 ≡ carryFrom f w (getD xs i noStream)
 
 -- and what is found once it is tested: r says whether its rounds keep the limit M
-pub record WindowKept (f : List ℕ) (xs : List Stream) (n M w e : ℕ) (carries : List ℕ) (r : Bool) : Type 0 where
+pub record WindowKept (f : List ℕ) (xs : List Stream) (n M w e : ℕ) (window carries : List ℕ) (r : Bool) : Type 0 where
   pub kept : memoryKept f M e (take n xs) ≡ r && memoryKept f M w (take n xs)
+  pub held : (k : ℕ) → k < e - w → getD window k 0 ≡ heldIn f (w + k) (take n xs)
+  pub most : r ≡ true → (k : ℕ) → k < e - w → getD window k 0 ≤ M
   pub carried : (i : ℕ) → i < n → getD carries i 0 ≡ carryFrom f w (getD xs i noStream)
 
 -- ---- what is held by round, in a list
@@ -96,23 +98,3 @@ pub record Agrees (f : List ℕ) (xs : List Stream) (list : List ℕ) (e T : ℕ
 -- what is held
 abbrev pub Tells : List ℕ → List Stream → ℕ → ℕ → List ℕ → Bool → Bool → Type 0
 Tells f xs M T list kept same = (kept ≡ memoryKept f M T xs && all (feasible f) xs) × (same ≡ true → Agrees f xs list 0 T)
-
--- ---- a list by round that is written where it was 0
-
--- the n places from w on are a window's first n, and those after them are as they were
-pub record Put (w n : ℕ) (window before after : List ℕ) : Type 0 where
-  pub size : length after ≡ length before
-  pub placed : (k : ℕ) → k < n → getD after (w + k) 0 ≡ getD window k 0
-  pub rest : (t : ℕ) → w + n ≤ t → getD after t 0 ≡ getD before t 0
-
--- the places from e on are as they were; all are unless the list was blank
-pub record Rest (blank : Bool) (e : ℕ) (before after : List ℕ) : Type 0 where
-  pub size : length after ≡ length before
-  pub rest : (t : ℕ) → e ≤ t → getD after t 0 ≡ getD before t 0
-  pub left : blank ≡ false → after ≡ before
-
--- a list was written only where its first T places were 0, and only in those
-pub record Settled (blank : Bool) (T : ℕ) (before after : List ℕ) : Type 0 where
-  pub left : blank ≡ false → after ≡ before
-  pub long : blank ≡ true → T ≤ length after
-  pub zeros : blank ≡ true → before ≡ replicate T 0 ++ drop T after

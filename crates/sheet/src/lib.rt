@@ -1,3 +1,4 @@
 // What streams hold, by round: the memory limit tested in windows, and the day sheet.
 pub mod memory;
+pub mod packed;
 pub mod sheet;

@@ -1,25 +1,27 @@
 // Memory's side of a day, tested in windows of rounds from the last to the first, so that no list by round is needed. A
 // stream's carry goes from window to window. Rounds in which nothing is open are in no window.
+use crate::packed::Compared;
+use crate::packed::Packed;
+use crate::packed::restore;
+use crate::packed::settle_gap;
+use crate::packed::settle_window;
 use limits::bounds::MAX_BOOKINGS;
 use lists::joined::all_within;
-use lists::joined::difference;
 use load::stream::Stream;
 use retrieval::clear::clear;
 use table::streams::stream_at;
 ghost use mathlib.Core.Path.{_≡_};
-ghost use mathlib.Core.Bool.{true, false, _&&_};
-ghost use mathlib.Core.List.{_++_};
+ghost use mathlib.Core.Bool.{false};
 ghost use Prim.Native.Nat.{ℕ, _+_, _-_, _≤_, _<_, min, max};
-ghost use lib.ListN.{length, getD, take, drop, replicate};
+ghost use lib.ListN.{length, take, replicate};
 ghost use lib.Dec.{leb, eqb};
 ghost use Rattle.limits.specs.Bounds.{maxBookings};
 ghost use Rattle.laws.specs.Tests.{all};
 ghost use Rattle.load.specs.Basic.{Bounded, Playable, Within, EachOf};
-ghost use Rattle.load.specs.Stream.{heldIn};
 ghost use Rattle.table.specs.Columns.{tableWords};
 ghost use Rattle.table.specs.Streams.{streams};
-ghost use Rattle.sheet.specs.Memory.{feasible, memoryKept, Spans, later, openUntil, earlier, openFrom};
-ghost use Rattle.sheet.specs.Memory.{Windowed, Added, Fills, Filled, WindowKept, Agrees, Tells, Put, Rest, Settled};
+ghost use Rattle.sheet.specs.Memory.{Spans, later, openUntil, earlier, openFrom, Windowed, Added, Fills, Filled, WindowKept, Tells};
+ghost use Rattle.sheet.specs.Packed.{heldsOf, Settled};
 
 // rounds in a window, at most
 const SHORT: usize = 1024;
@@ -28,12 +30,11 @@ const MIDDLE: usize = 4096;
 
 const LONG: usize = 8192;
 
-// Whether the rounds of a day keep the memory limit, whether a list by round has just what is held in them, and whether it was 0
-// before it was written.
+// Whether the rounds of a day keep the memory limit, and whether a list by round, packed so, has just what is held in them.
 pub struct Checked {
     pub kept: bool,
     pub same: bool,
-    pub blank: bool,
+    pub packed: Packed,
 }
 
 // The larger of two.
@@ -161,79 +162,8 @@ fn window_fill(
     }
 }
 
-// Whether the n places of a list from w on are the first n of a window; not asked unless `asked`. The differences are joined, so
-// that there is no test from place to place.
-fn same_places(asked: bool, list: &[u64], w: usize, window: &[u64], n: usize) -> bool
-    requires { ⌜ ((asked ≡ true → w + n ≤ length (now list)) × (n ≤ length (now window))) ⌝ }
-    ensures { λ r. ⌜ (r ≡ true → (asked ≡ true) × ((k : ℕ) → k < n → getD (now (list .entry)) (w + k) 0 ≡ getD (now (window .entry)) k 0)) ⌝ }
-{
-    if !asked {
-        return false;
-    }
-    let mut joined: u64 = 0;
-    let mut i = 0;
-    while i < n {
-        joined = joined | difference(list[w + i], window[i]);
-        i += 1;
-    }
-    joined == 0
-}
-
-// Whether the places of a list from a to e - 1 are 0; not asked unless `asked`.
-fn empty_places(asked: bool, list: &[u64], a: usize, e: usize) -> bool
-    requires { ⌜ (asked ≡ true → e ≤ length (now list)) ⌝ }
-    ensures { λ r. ⌜ (r ≡ true → (asked ≡ true) × ((t : ℕ) → a ≤ t → t < e → getD (now (list .entry)) t 0 ≡ 0)) ⌝ }
-{
-    if !asked {
-        return false;
-    }
-    let mut joined: u64 = 0;
-    let mut t = a;
-    while t < e {
-        joined = joined | list[t];
-        t += 1;
-    }
-    joined == 0
-}
-
-// Writes the first n places of a window to the n places of a list from w on.
-fn put_places(list: &mut [u64], w: usize, window: &[u64], n: usize)
-    requires { ⌜ (w + n ≤ length (now list)) × (n ≤ length (now window)) ⌝ }
-    ensures { λ _. ⌜ Put w n (now (window .entry)) (now (list .entry)) (now (list .exit)) ⌝ }
-{
-    let mut i = 0;
-    while i < n {
-        list[w + i] = window[i];
-        i += 1;
-    }
-}
-
-// Whether the n places of a list from w on are the first n of a window; not asked unless `asked`. In a blank list they become so.
-fn settle_places(
-    blank: bool,
-    asked: bool,
-    list: &mut [u64],
-    w: usize,
-    window: &[u64],
-    n: usize,
-) -> bool
-    requires { ⌜ ((asked ≡ true → w + n ≤ length (now list)) × (n ≤ length (now window))) ⌝ }
-    ensures { λ r. ⌜ (r ≡ true → (asked ≡ true) × ((k : ℕ) → k < n → getD (now (list .exit)) (w + k) 0 ≡ getD (now (window .entry)) k 0)) ⌝ }
-    ensures { λ _. ⌜ Rest blank (w + n) (now (list .entry)) (now (list .exit)) ⌝ }
-{
-    if !blank {
-        return same_places(asked, list, w, window, n);
-    }
-    if !asked {
-        return false;
-    }
-    put_places(list, w, window, n);
-    true
-}
-
-// Whether the rounds from w to e - 1 keep the memory limit, tested in a list of as many places, and whether `helds` has what
-// is held in them, which is written there where it is blank. Turns `carries`, those of the first `count` streams' rounds from e on,
-// into those of their rounds from w on.
+// Whether the rounds from w to e - 1 keep the memory limit. Fills a list of as many places with what is held in them, and turns `carries`,
+// those of the first `count` streams' rounds from e on, into those of their rounds from w on.
 fn window_kept(
     file: &[u8],
     table: &[u64],
@@ -243,20 +173,14 @@ fn window_kept(
     e: usize,
     carries: &mut [u64],
     memory: u64,
-    blank: bool,
-    asked: bool,
-    helds: &mut [u64],
-) -> Checked
-    requires { ⌜ (tableWords ≤ length (now table)) × (length (now window) ≡ e - w) × Fills (now file) (streams (now table)) count (replicate (e - w) 0) w e (now carries) × (asked ≡ true → e ≤ length (now helds)) ⌝ }
-    ensures { λ r. ⌜ (WindowKept (now (file .entry)) (streams (now (table .entry))) count memory w e (now (carries .exit)) (r .kept) × (r .same ≡ true → (asked ≡ true) × ((t : ℕ) → w ≤ t → t < e → getD (now (helds .exit)) t 0 ≡ heldIn (now (file .entry)) t (take count (streams (now (table .entry))))))) ⌝ }
-    ensures { λ _. ⌜ Rest blank e (now (helds .entry)) (now (helds .exit)) ⌝ }
+) -> bool
+    requires { ⌜ (tableWords ≤ length (now table)) × (length (now window) ≡ e - w) × Fills (now file) (streams (now table)) count (replicate (e - w) 0) w e (now carries) ⌝ }
+    ensures { λ r. ⌜ WindowKept (now (file .entry)) (streams (now (table .entry))) count memory w e (now (window .exit)) (now (carries .exit)) r ⌝ }
 {
     let n = e - w;
     clear(window, n);
     window_fill(file, table, count, window, w, e, carries);
-    let kept = all_within(window, memory);
-    let same = settle_places(blank, asked, helds, w, window, n);
-    Checked { kept, same, blank }
+    all_within(window, memory)
 }
 
 // Whether the first `count` are all 0.
@@ -275,33 +199,35 @@ fn none_left(carries: [u64; MAX_BOOKINGS], count: usize) -> bool
 }
 
 // Whether every round of the day keeps the memory limit and every stream has a schedule; and if they do, whether the first T
-// places of `helds` are what is held by round. A list that is shorter is not looked at, and one that is blank is written. The windows
-// have as many rounds as `window` has places, whatever stands there.
+// places of `helds` have what is held by round: from the first difference on it is written over the numbers lent, packed with them, if
+// there is room. A list that is shorter is not looked at. The windows have as many rounds as `window` has places, whatever stands there.
 fn held_windows(
     file: &[u8],
     table: &[u64],
     count: usize,
     day_rounds: usize,
     memory: u64,
-    blank: bool,
     window: &mut [u64],
     helds: &mut [u64],
 ) -> Checked
-    requires { ⌜ (tableWords ≤ length (now table)) × (count ≤ maxBookings) × EachOf (Playable (now file)) count (streams (now table)) × EachOf (Within «day_rounds») count (streams (now table)) × Settled blank «day_rounds» (now helds) (now helds) × (0 < length (now window)) ⌝ }
-    ensures { λ r. ⌜ Tells (now (file .entry)) (take count (streams (now (table .entry)))) memory «day_rounds» (now (helds .exit)) (r .kept) (r .same) ⌝ }
-    ensures { λ r. ⌜ Settled (r .blank) «day_rounds» (now (helds .entry)) (now (helds .exit)) ⌝ }
+    requires { ⌜ (tableWords ≤ length (now table)) × (count ≤ maxBookings) × EachOf (Playable (now file)) count (streams (now table)) × EachOf (Within «day_rounds») count (streams (now table)) × (0 < length (now window)) ⌝ }
+    ensures { λ r. ⌜ Tells (now (file .entry)) (take count (streams (now (table .entry)))) memory «day_rounds» (heldsOf (r .packed) (now (helds .exit))) (r .kept) (r .same) ⌝ }
+    ensures { λ r. ⌜ Settled (r .packed) «day_rounds» (now (helds .entry)) (now (helds .exit)) ⌝ }
 {
     let mut starts = [0usize; MAX_BOOKINGS];
     let mut ends = [0usize; MAX_BOOKINGS];
     spans(table, count, &mut starts, &mut ends);
     let mut carries = [0u64; MAX_BOOKINGS];
     let mut e = open_until(&starts, &ends, count, day_rounds);
-    let long = day_rounds <= helds.len();
-    let mut same = empty_places(long, helds, e, day_rounds);
+    let mut c = Compared {
+        same: day_rounds <= helds.len(),
+        packed: Packed { bits: 0, rounds: 0 },
+    };
+    c = settle_gap(c, helds, e, day_rounds, memory);
     while 0 < e {
         let w = open_from(&starts, &ends, count, e - smaller(e, window.len()), e - 1);
         let n = e - w;
-        let checked = window_kept(
+        let kept = window_kept(
             file,
             table,
             count,
@@ -310,22 +236,25 @@ fn held_windows(
             e,
             &mut carries,
             memory,
-            blank,
-            same,
-            helds,
         );
-        if !checked.kept {
+        if !kept {
+            let packed = c.packed;
             return Checked {
-                kept: false,
+                kept,
                 same: false,
-                blank,
+                packed,
             };
         }
+        c = settle_window(c, helds, w, window, n, memory);
         e = open_until(&starts, &ends, count, w);
-        same = empty_places(checked.same, helds, e, w);
+        c = settle_gap(c, helds, e, w, memory);
     }
-    let kept = none_left(carries, count);
-    Checked { kept, same, blank }
+    let packed = c.packed;
+    Checked {
+        kept: none_left(carries, count),
+        same: c.same,
+        packed,
+    }
 }
 
 // `held_windows` in short windows.
@@ -335,24 +264,14 @@ fn held_short(
     count: usize,
     day_rounds: usize,
     memory: u64,
-    blank: bool,
     helds: &mut [u64],
 ) -> Checked
-    requires { ⌜ (tableWords ≤ length (now table)) × (count ≤ maxBookings) × EachOf (Playable (now file)) count (streams (now table)) × EachOf (Within «day_rounds») count (streams (now table)) × Settled blank «day_rounds» (now helds) (now helds) ⌝ }
-    ensures { λ r. ⌜ Tells (now (file .entry)) (take count (streams (now (table .entry)))) memory «day_rounds» (now (helds .exit)) (r .kept) (r .same) ⌝ }
-    ensures { λ r. ⌜ Settled (r .blank) «day_rounds» (now (helds .entry)) (now (helds .exit)) ⌝ }
+    requires { ⌜ (tableWords ≤ length (now table)) × (count ≤ maxBookings) × EachOf (Playable (now file)) count (streams (now table)) × EachOf (Within «day_rounds») count (streams (now table)) ⌝ }
+    ensures { λ r. ⌜ Tells (now (file .entry)) (take count (streams (now (table .entry)))) memory «day_rounds» (heldsOf (r .packed) (now (helds .exit))) (r .kept) (r .same) ⌝ }
+    ensures { λ r. ⌜ Settled (r .packed) «day_rounds» (now (helds .entry)) (now (helds .exit)) ⌝ }
 {
     let mut window = [0u64; SHORT];
-    held_windows(
-        file,
-        table,
-        count,
-        day_rounds,
-        memory,
-        blank,
-        &mut window,
-        helds,
-    )
+    held_windows(file, table, count, day_rounds, memory, &mut window, helds)
 }
 
 // `held_windows` in windows of middle length.
@@ -362,24 +281,14 @@ fn held_middle(
     count: usize,
     day_rounds: usize,
     memory: u64,
-    blank: bool,
     helds: &mut [u64],
 ) -> Checked
-    requires { ⌜ (tableWords ≤ length (now table)) × (count ≤ maxBookings) × EachOf (Playable (now file)) count (streams (now table)) × EachOf (Within «day_rounds») count (streams (now table)) × Settled blank «day_rounds» (now helds) (now helds) ⌝ }
-    ensures { λ r. ⌜ Tells (now (file .entry)) (take count (streams (now (table .entry)))) memory «day_rounds» (now (helds .exit)) (r .kept) (r .same) ⌝ }
-    ensures { λ r. ⌜ Settled (r .blank) «day_rounds» (now (helds .entry)) (now (helds .exit)) ⌝ }
+    requires { ⌜ (tableWords ≤ length (now table)) × (count ≤ maxBookings) × EachOf (Playable (now file)) count (streams (now table)) × EachOf (Within «day_rounds») count (streams (now table)) ⌝ }
+    ensures { λ r. ⌜ Tells (now (file .entry)) (take count (streams (now (table .entry)))) memory «day_rounds» (heldsOf (r .packed) (now (helds .exit))) (r .kept) (r .same) ⌝ }
+    ensures { λ r. ⌜ Settled (r .packed) «day_rounds» (now (helds .entry)) (now (helds .exit)) ⌝ }
 {
     let mut window = [0u64; MIDDLE];
-    held_windows(
-        file,
-        table,
-        count,
-        day_rounds,
-        memory,
-        blank,
-        &mut window,
-        helds,
-    )
+    held_windows(file, table, count, day_rounds, memory, &mut window, helds)
 }
 
 // `held_windows` in long windows.
@@ -389,24 +298,14 @@ fn held_long(
     count: usize,
     day_rounds: usize,
     memory: u64,
-    blank: bool,
     helds: &mut [u64],
 ) -> Checked
-    requires { ⌜ (tableWords ≤ length (now table)) × (count ≤ maxBookings) × EachOf (Playable (now file)) count (streams (now table)) × EachOf (Within «day_rounds») count (streams (now table)) × Settled blank «day_rounds» (now helds) (now helds) ⌝ }
-    ensures { λ r. ⌜ Tells (now (file .entry)) (take count (streams (now (table .entry)))) memory «day_rounds» (now (helds .exit)) (r .kept) (r .same) ⌝ }
-    ensures { λ r. ⌜ Settled (r .blank) «day_rounds» (now (helds .entry)) (now (helds .exit)) ⌝ }
+    requires { ⌜ (tableWords ≤ length (now table)) × (count ≤ maxBookings) × EachOf (Playable (now file)) count (streams (now table)) × EachOf (Within «day_rounds») count (streams (now table)) ⌝ }
+    ensures { λ r. ⌜ Tells (now (file .entry)) (take count (streams (now (table .entry)))) memory «day_rounds» (heldsOf (r .packed) (now (helds .exit))) (r .kept) (r .same) ⌝ }
+    ensures { λ r. ⌜ Settled (r .packed) «day_rounds» (now (helds .entry)) (now (helds .exit)) ⌝ }
 {
     let mut window = [0u64; LONG];
-    held_windows(
-        file,
-        table,
-        count,
-        day_rounds,
-        memory,
-        blank,
-        &mut window,
-        helds,
-    )
+    held_windows(file, table, count, day_rounds, memory, &mut window, helds)
 }
 
 // `held_windows` in windows of a length that suits the day: to zero a long one takes longer than a short day's check, and in short ones
@@ -417,55 +316,24 @@ fn held_day(
     count: usize,
     day_rounds: usize,
     memory: u64,
-    blank: bool,
     helds: &mut [u64],
 ) -> Checked
-    requires { ⌜ (tableWords ≤ length (now table)) × (count ≤ maxBookings) × EachOf (Playable (now file)) count (streams (now table)) × EachOf (Within «day_rounds») count (streams (now table)) × Settled blank «day_rounds» (now helds) (now helds) ⌝ }
-    ensures { λ r. ⌜ Tells (now (file .entry)) (take count (streams (now (table .entry)))) memory «day_rounds» (now (helds .exit)) (r .kept) (r .same) ⌝ }
-    ensures { λ r. ⌜ Settled (r .blank) «day_rounds» (now (helds .entry)) (now (helds .exit)) ⌝ }
+    requires { ⌜ (tableWords ≤ length (now table)) × (count ≤ maxBookings) × EachOf (Playable (now file)) count (streams (now table)) × EachOf (Within «day_rounds») count (streams (now table)) ⌝ }
+    ensures { λ r. ⌜ Tells (now (file .entry)) (take count (streams (now (table .entry)))) memory «day_rounds» (heldsOf (r .packed) (now (helds .exit))) (r .kept) (r .same) ⌝ }
+    ensures { λ r. ⌜ Settled (r .packed) «day_rounds» (now (helds .entry)) (now (helds .exit)) ⌝ }
 {
     if day_rounds <= SHORT {
-        return held_short(file, table, count, day_rounds, memory, blank, helds);
+        return held_short(file, table, count, day_rounds, memory, helds);
     }
     if day_rounds <= LONG {
-        return held_middle(file, table, count, day_rounds, memory, blank, helds);
+        return held_middle(file, table, count, day_rounds, memory, helds);
     }
-    held_long(file, table, count, day_rounds, memory, blank, helds)
-}
-
-// Whether a list of T places may be blank. One that has something in the last round of the first stream is not, which spares the look
-// at all places of a list that is right.
-fn maybe_blank(table: &[u64], count: usize, day_rounds: usize, helds: &[u64]) -> bool
-    requires { ⌜ (tableWords ≤ length (now table)) × (count ≤ maxBookings) × EachOf Bounded count (streams (now table)) × EachOf (Within «day_rounds») count (streams (now table)) ⌝ }
-    ensures { λ r. ⌜ (r ≡ true → «day_rounds» ≤ length (now (helds .entry))) ⌝ }
-{
-    if helds.len() < day_rounds {
-        return false;
-    }
-    if count == 0 {
-        return false;
-    }
-    let x = stream_at(table, 0);
-    let end = x.start + x.prefetch + x.rounds;
-    if end == 0 {
-        return false;
-    }
-    helds[end - 1] == 0
-}
-
-// Zeroes the first T places of a list again that was blank before it was written.
-pub fn restore(blank: bool, day_rounds: usize, helds: &mut [u64])
-    requires { ⌜ (blank ≡ true → «day_rounds» ≤ length (now helds)) ⌝ }
-    ensures { λ _. ⌜ ((blank ≡ true → now (helds .exit) ≡ replicate «day_rounds» 0 ++ drop «day_rounds» (now (helds .entry))) × (blank ≡ false → now (helds .exit) ≡ now (helds .entry))) ⌝ }
-{
-    if blank {
-        clear(helds, day_rounds);
-    }
+    held_long(file, table, count, day_rounds, memory, helds)
 }
 
 // Whether every round of the day keeps the memory limit and every stream has a schedule; and if they do, whether the first T
-// places of `helds` are what is held by round. Where they are all 0, as after a restart, they are written in the same pass; that is
-// told as `blank`. Else, and where the answer is no, the list stays as it is.
+// places of `helds` have what is held by round, which may be packed with the numbers lent. Where the answer is no, the list is as it was
+// lent.
 pub fn held_within(
     file: &[u8],
     table: &[u64],
@@ -475,19 +343,18 @@ pub fn held_within(
     helds: &mut [u64],
 ) -> Checked
     requires { ⌜ (tableWords ≤ length (now table)) × (count ≤ maxBookings) × EachOf (Playable (now file)) count (streams (now table)) × EachOf (Within «day_rounds») count (streams (now table)) ⌝ }
-    ensures { λ r. ⌜ Tells (now (file .entry)) (take count (streams (now (table .entry)))) memory «day_rounds» (now (helds .exit)) (r .kept) (r .same) ⌝ }
-    ensures { λ r. ⌜ (Settled (r .blank) «day_rounds» (now (helds .entry)) (now (helds .exit)) × (r .kept ≡ false → r .blank ≡ false)) ⌝ }
+    ensures { λ r. ⌜ Tells (now (file .entry)) (take count (streams (now (table .entry)))) memory «day_rounds» (heldsOf (r .packed) (now (helds .exit))) (r .kept) (r .same) ⌝ }
+    ensures { λ r. ⌜ (Settled (r .packed) «day_rounds» (now (helds .entry)) (now (helds .exit)) × (r .kept ≡ false → r .packed .rounds ≡ 0)) ⌝ }
 {
-    let asked = maybe_blank(table, count, day_rounds, helds);
-    let blank = empty_places(asked, helds, 0, day_rounds);
-    let checked = held_day(file, table, count, day_rounds, memory, blank, helds);
+    let checked = held_day(file, table, count, day_rounds, memory, helds);
     if checked.kept {
         return checked;
     }
-    restore(checked.blank, day_rounds, helds);
+    let packed = checked.packed;
+    restore(packed, helds);
     Checked {
         kept: false,
         same: false,
-        blank: false,
+        packed: Packed { bits: 0, rounds: 0 },
     }
 }

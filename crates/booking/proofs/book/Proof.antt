@@ -16,7 +16,7 @@ use Rattle.model.specs.FirstFit.{book-first}
 use Rattle.load.specs.Streams.{streamOf}
 use Rattle.table.specs.Table.{Tabled}
 use Rattle.questions.specs.Given.{settingAt}
-use Rattle.sheet.specs.SettleLaws.{settled-length}
+use Rattle.sheet.specs.PackedLaws.{settled-length, settled-same}
 use Rattle.questions.specs.Numbers.{standingAsks}
 use Rattle.questions.specs.Standing.{standing-first}
 use Rattle.booking.specs.Contract.{bookAsks}
@@ -83,7 +83,7 @@ returns c =
     let first : number .result .number ≡ refusal (bookAsks f (a .day) (a .rows) (a .places) (a .q) (length (a .opens .now)) (length (a .reserves .now)) (length (a .helds .now))) =
     sym (standing-first f (a .day) (a .rows) (a .places) (length (a .opens .now)) (length (a .reserves .now)) (length (a .helds .now)) _ (number .result .number) (number .ensures .0 .number (a .rows) full tabled) (c .if1 .taken)) in (
       leaves-left f (a .day) (a .rows) (a .places) (a .q) (a .opens .now) (a .reserves .now) (a .helds .now) (number .last .1 .1 .1 .1 .1 .1 .1 .1 .1 .1 .0) (number .result .number)
-          (settled .0 .left (settled .1 (c .if1 .taken))) first (c .if1 .taken),
+          (settled-same (number .result .packed) (a .day .rounds) (a .helds .now) _ (settled .0) (settled .1 (c .if1 .taken))) first (c .if1 .taken),
       λ e.
           absurd
           (c .if1 .taken
@@ -106,18 +106,18 @@ slice-aggregate-book-checked-3 c = search needs
 
 book-checked-requires : tie.Need-book-checked-requires
 book-checked-requires c κs =
-    let start = c .before .before .before .before .before .before .before .before .before .before .before .before .before .before .before .before .before .before .before .before .before .before .before .before .before .before in
+    let start = c .before .before .before .before .before .before .before .before .before .before .before .before .before .before .before .before .before .before .before .before .before .before .before .before .before .before .before in
     let a = start .args in
     let f = a .file .now in
     let full : length (a .rows) ≡ maxBookings = omega (arith, start) in
-    let table = c .before .before .before .before .before .before .before .before .before .before .before .before .before .before .before .before .before .before .tabulate .last .1 .1 .1 .0 in
+    let table = c .before .before .before .before .before .before .before .before .before .before .before .before .before .before .before .before .before .before .before .tabulate .last .1 .1 .1 .0 in
     let tabled : Tabled (catalogueOf f) (take (a .day .count) (a .rows)) table =
-    tabled-count (catalogueOf f) (a .rows) (a .day .count) (c .before .before .before .before .before .before .before .before .before .before .before .before .before .before .before .before .before .before .before .before .smaller .result) table full (c .before .before .before .before .before .before .before .before .before .before .before .before .before .before .before .before .before .before .before .before .smaller .ensures) (rw (c .before .before .before .before .before .before .before .before .before .before .before .before .before .before .before .before .before .before .before .before .before .catalogue .ensures) at (c .before .before .before .before .before .before .before .before .before .before .before .before .before .before .before .before .before .before .tabulate .ensures .0)) in
-    let number = c .before .before .before .before .before .before .before .before .before .before .before .before .examine in
+    tabled-count (catalogueOf f) (a .rows) (a .day .count) (c .before .before .before .before .before .before .before .before .before .before .before .before .before .before .before .before .before .before .before .before .before .smaller .result) table full (c .before .before .before .before .before .before .before .before .before .before .before .before .before .before .before .before .before .before .before .before .before .smaller .ensures) (rw (c .before .before .before .before .before .before .before .before .before .before .before .before .before .before .before .before .before .before .before .before .before .before .catalogue .ensures) at (c .before .before .before .before .before .before .before .before .before .before .before .before .before .before .before .before .before .before .before .tabulate .ensures .0)) in
+    let number = c .before .before .before .before .before .before .before .before .before .before .before .before .before .examine in
     let examined = number .ensures in
-    let passed = c .before .before .before .before .before .before .before .if1 .left in
-    let size = settled-length (number .result .blank) (a .day .rounds) (a .helds .now) (number .last .1 .1 .1 .1 .1 .1 .1 .1 .1 .1 .0) (examined .1 .1 .0) in (
-      c .before .before .before .before .before .requested .ensures ∙ ap (λ (k : Catalogue). streamOf k (recordOf (a .q) 0)) (c .before .before .before .before .before .before .before .before .before .before .before .before .before .before .before .before .before .before .before .before .before .catalogue .ensures),
+    let passed = c .before .before .before .before .before .before .before .before .if1 .left in
+    let size = settled-length (number .result .packed) (a .day .rounds) (a .helds .now) (number .last .1 .1 .1 .1 .1 .1 .1 .1 .1 .1 .0) (examined .1 .1 .0) in (
+      c .before .before .before .before .before .requested .ensures ∙ ap (λ (k : Catalogue). streamOf k (recordOf (a .q) 0)) (c .before .before .before .before .before .before .before .before .before .before .before .before .before .before .before .before .before .before .before .before .before .before .catalogue .ensures),
       ap (λ (m : ℕ). refusal (standingAsks f (a .day) (a .rows) (a .places) (length (a .opens .now)) (length (a .reserves .now)) m)) size
           ∙ sym (examined .0 .number (a .rows) full tabled)
           ∙ passed,
@@ -125,6 +125,7 @@ book-checked-requires c κs =
       tabled,
       examined .0 .events passed,
       examined .0 .held (a .rows) full tabled,
+      examined .1 .1 .0 .packable,
     )
 
 same-length-2 : tie.Need-same-length-2
@@ -138,10 +139,10 @@ same-length-4 c = search needs
 
 returns-2 : tie.Need-returns-2
 returns-2 c =
-    let start = c .before .before .before .before .before .before .before .before .before .before .before .before .before .before .before .before .before .before .before .before .before .before .before .before .before .before .before .before .before .before .before .before .before in
+    let start = c .before .before .before .before .before .before .before .before .before .before .before .before .before .before .before .before .before .before .before .before .before .before .before .before .before .before .before .before .before .before .before .before .before .before in
     let a = start .args in
     let f = a .file .now in
-    let booked = c .before .before .before .before .before .before .book-checked .ensures (a .helds .now) (c .before .before .before .before .before .before .before .before .before .before .before .before .before .before .before .before .before .before .before .examine .ensures .1 .1 .0) in (
+    let booked = c .before .before .before .before .before .before .book-checked .ensures (a .helds .now) (c .before .before .before .before .before .before .before .before .before .before .before .before .before .before .before .before .before .before .before .before .examine .ensures .1 .1 .0) in (
       booked,
       λ e. rw (booked .answer) (book-first (settingAt f (a .day)) (stateOf (a .day) (a .rows) (a .places) (a .opens .now) (a .reserves .now) (a .helds .now)) (a .q) e),
     )

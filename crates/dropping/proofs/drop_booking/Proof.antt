@@ -4,6 +4,7 @@ use mathlib.Core.Path.{refl, sym, _∙_}
 use native.Mathlib.Omega.{arith}
 use borrow.Author.Needs.{needs}
 use Rattle.films.specs.Ordered.{catalogue-ordered}
+use Rattle.sheet.specs.PackedLaws.{settled-same}
 use Rattle.dropping.specs.Laws.{standing-refused}
 use Rattle.dropping.specs.CheckedLaws.{day-tabled, examine-asks, standing-lent, drops-left}
 use Rattle.dropping.proofs.drop_booking.Statement.{statement}
@@ -56,7 +57,7 @@ returns c =
     let a = start .args in
     let asked = c .before .before .before .before .before .examine in
     let settled = asked .ensures .1 .1 in
-    drops-left _ _ (a .name) _ (a .opens .now) (a .reserves .now) (a .helds .now) (asked .last .1 .1 .1 .1 .1 .1 .1 .1 .1 .1 .0) (settled .0 .left (settled .1 (c .if1 .taken)))
+    drops-left _ _ (a .name) _ (a .opens .now) (a .reserves .now) (a .helds .now) (asked .last .1 .1 .1 .1 .1 .1 .1 .1 .1 .1 .0) (settled-same (asked .result .packed) (a .day .rounds) (a .helds .now) _ (settled .0) (settled .1 (c .if1 .taken)))
     (standing-refused (a .file .now) (a .day) (a .rows) (a .places) (a .opens .now) (a .reserves .now) (a .helds .now) (asked .result .number)
     (asked .ensures .0 .number (a .rows) (omega (arith, start)) (day-tabled (a .file .now) (made .catalogue .result) (a .day) (a .rows) (made .catalogue .ensures) (omega (arith, start)) (listed .smaller .result)
     (listed .smaller .ensures) (tabled .tabulate .last .1 .1 .1 .0) (tabled .tabulate .ensures .0))) (a .name) _ (c .if1 .taken) refl refl refl)
@@ -72,18 +73,18 @@ slice-aggregate-drop-checked-3 c = search needs
 
 drop-checked-requires : tie.Need-drop-checked-requires
 drop-checked-requires c κs =
-    let tabled = c .before .before .before .before .before .before .before .before .before .before .before .before .before .before .before .before .before in
-    let listed = c .before .before .before .before .before .before .before .before .before .before .before .before .before .before .before .before .before .before .before in
-    let made = c .before .before .before .before .before .before .before .before .before .before .before .before .before .before .before .before .before .before .before .before in
-    let start = c .before .before .before .before .before .before .before .before .before .before .before .before .before .before .before .before .before .before .before .before .before .before .before .before .before in
+    let tabled = c .before .before .before .before .before .before .before .before .before .before .before .before .before .before .before .before .before .before in
+    let listed = c .before .before .before .before .before .before .before .before .before .before .before .before .before .before .before .before .before .before .before .before in
+    let made = c .before .before .before .before .before .before .before .before .before .before .before .before .before .before .before .before .before .before .before .before .before in
+    let start = c .before .before .before .before .before .before .before .before .before .before .before .before .before .before .before .before .before .before .before .before .before .before .before .before .before .before in
     let a = start .args in
-    let passed = c .before .before .before .before .before .before .if1 .left in
-    let asked = c .before .before .before .before .before .before .before .before .before .before .before .examine in
+    let passed = c .before .before .before .before .before .before .before .if1 .left in
+    let asked = c .before .before .before .before .before .before .before .before .before .before .before .before .examine in
     let told = asked .ensures in
     let table = day-tabled (a .file .now) (made .catalogue .result) (a .day) (a .rows) (made .catalogue .ensures) (omega (arith, start)) (listed .smaller .result)
     (listed .smaller .ensures) (tabled .tabulate .last .1 .1 .1 .0) (tabled .tabulate .ensures .0) in (
       made .catalogue .ensures,
-      standing-lent (a .file .now) (a .day) (a .rows) (a .places) _ _ (asked .last .1 .1 .1 .1 .1 .1 .1 .1 .1 .1 .0) (a .helds .now) (asked .result .blank) (told .1 .1 .0)
+      standing-lent (a .file .now) (a .day) (a .rows) (a .places) _ _ (asked .last .1 .1 .1 .1 .1 .1 .1 .1 .1 .1 .0) (a .helds .now) (asked .result .packed) (told .1 .1 .0)
           ∙ sym (told .0 .number (a .rows) (omega (arith, start)) table)
           ∙ passed,
       record {
@@ -92,6 +93,7 @@ drop-checked-requires c κs =
         events = told .0 .events passed;
         held = told .0 .held (a .rows) (omega (arith, start)) table;
       },
+      told .1 .1 .0 .packable,
     )
 
 same-length-2 : tie.Need-same-length-2
@@ -104,7 +106,7 @@ same-length-4 : tie.Need-same-length-4
 same-length-4 c = search needs
 
 returns-2 : tie.Need-returns-2
-returns-2 c = c .before .before .before .before .before .before .drop-checked .ensures (c .before .before .before .before .before .before .before .before .before .before .before .before .before .before .before .before .before .before .before .before .before .before .before .before .before .before .before .before .before .before .before .before .args .helds .now) (c .before .before .before .before .before .before .before .before .before .before .before .before .before .before .before .before .before .before .examine .ensures .1 .1 .0)
+returns-2 c = c .before .before .before .before .before .before .drop-checked .ensures (c .before .before .before .before .before .before .before .before .before .before .before .before .before .before .before .before .before .before .before .before .before .before .before .before .before .before .before .before .before .before .before .before .before .args .helds .now) (c .before .before .before .before .before .before .before .before .before .before .before .before .before .before .before .before .before .before .before .examine .ensures .1 .1 .0)
 
 pub drop-booking-spec : {M : Type 1} → statement M
 drop-booking-spec =

@@ -1,60 +1,78 @@
 -- `dropping::drop_checked` meets its contract: a name that is not there leaves everything as it was lent; else the sheet laid is that of the
 -- standing bookings, and a drop on it is a drop on the lent one. Assumes nothing.
-use mathlib.Core.Path.{refl, sym}
+use mathlib.Core.Path.{_≡_, refl, sym, ap, subst, _∙_}
+use mathlib.Core.List.{List}
+use Prim.Native.Nat.{ℕ}
 use native.Mathlib.Omega.{arith}
+use borrow.Author.Needs.{needs}
+use lib.ListN.{length, take}
+use Rattle.laws.specs.Questions.{refusal}
+use Rattle.questions.specs.Numbers.{standingAsks}
+use Rattle.sheet.specs.Packed.{upper}
+use Rattle.sheet.specs.PackedLaws.{length-front}
 use Rattle.dropping.specs.Laws.{stands}
 use Rattle.dropping.specs.CheckedLaws.{checked-lays, laid-kept, laid-passed, name-restored, lent-drops}
-use borrow.Author.Needs.{needs}
+use Rattle.dropping.specs.Standing.{Stands}
 use Rattle.dropping.proofs.drop_checked.Statement.{statement}
 use Rattle.dropping.proofs.drop_checked.Tie as tie
 
--- where the name was looked for
-abbrev start : tie.After-position → tie.Start
-start at = at .before .before .before .before .before .before .before .before
+-- once the list has the bytes held alone, the questions pass as before
+passed : (at : tie.After-settle) → refusal (standingAsks (at .before .before .before .before .before .before .before .before .before .before .before .args .file .now) (at .before .before .before .before .before .before .before .before .before .before .before .args .day) (at .before .before .before .before .before .before .before .before .before .before .before .args .rows) (at .before .before .before .before .before .before .before .before .before .before .before .args .places) (length (at .before .before .before .before .before .before .before .before .before .before .before .args .opens .now)) (length (at .before .before .before .before .before .before .before .before .before .before .before .args .reserves .now)) (length (at .settle .last .1 .0))) ≡ 0
+passed at =
+    let a = at .before .before .before .before .before .before .before .before .before .before .before .args in
+    ap (λ (m : ℕ). refusal (standingAsks (a .file .now) (a .day) (a .rows) (a .places) (length (a .opens .now)) (length (a .reserves .now)) m))
+    (ap length (at .settle .ensures) ∙ length-front (upper (a .packed .bits)) (a .packed .rounds) (a .helds .now))
+    ∙ at .before .before .before .before .before .before .before .before .before .before .before .pre .1
+
+-- and it has what the bookings hold
+standing : (at : tie.After-settle) → Stands (at .before .before .before .before .before .before .before .before .before .before .before .args .file .now) (at .before .before .before .before .before .before .before .before .before .before .before .args .day) (take (at .before .before .before .before .before .before .before .before .before .before .before .args .day .count) (at .before .before .before .before .before .before .before .before .before .before .before .args .rows)) (at .before .before .before .before .before .before .before .before .before .before .before .args .table .now) (at .before .before .before .before .before .before .before .before .before .before .before .args .opened .now) (at .before .before .before .before .before .before .before .before .before .before .before .args .closed .now) (at .before .before .before .before .before .before .before .before .before .before .before .args .same) (at .settle .last .1 .0)
+standing at =
+    let a = at .before .before .before .before .before .before .before .before .before .before .before .args in
+    subst (λ (l : List ℕ). Stands (a .file .now) (a .day) (take (a .day .count) (a .rows)) (a .table .now) (a .opened .now) (a .closed .now) (a .same) l)
+    (sym (at .settle .ensures)) (at .before .before .before .before .before .before .before .before .before .before .before .pre .2)
 
 position-requires : tie.Need-position-requires
 position-requires c κs =
-    let start = c .before .before .before .before .before .before .before in
-    let a = start .args in
-    stands (a .file .now) (a .day) (a .rows) (a .places) (a .opens .now) (a .reserves .now) (a .helds .now) 0 (sym (start .pre .1)) refl .few
+    let a = c .before .before .before .before .before .before .before .args in
+    stands (a .file .now) (a .day) (a .rows) (a .places) (a .opens .now) (a .reserves .now) (a .helds .now) 0 (sym (c .before .before .before .before .before .before .before .pre .1)) refl .few
 
 restore-requires : tie.Need-restore-requires
-restore-requires c κs =
-    let start = c .before .before .before .before .before .before .before .before .before .before in
-    let a = start .args in
-    λ z. stands (a .file .now) (a .day) (a .rows) (a .places) (a .opens .now) (a .reserves .now) (a .helds .now) 0 (sym (start .pre .1)) refl .helds
+restore-requires c κs = c .before .before .before .before .before .before .before .before .before .before .pre .3
 
 same-length : tie.Need-same-length
 same-length c = search needs
 
 returns : tie.Need-returns
 returns c =
-    let at = c .before .before .before .before .before in
-    let a = start at .args in
+    let a = c .before .before .before .before .before .before .before .before .before .before .before .before .before .args in
+    let at = c .before .before .before .before .before .position in
     let restored = c .before .before .restore in
     λ lent g.
-    name-restored (a .file .now) (a .day) (a .rows) (a .places) (a .opens .now) (a .reserves .now) (a .helds .now) lent (restored .last .1 .1 .0) (a .blank) g
-    (restored .ensures) (start at .pre .1) (a .name) (at .position .result) _ (at .position .ensures) (c .before .before .before .before .if1 .taken) refl refl refl
+    name-restored (a .file .now) (a .day) (a .rows) (a .places) (a .opens .now) (a .reserves .now) (a .helds .now) lent (restored .last .1 .0) (a .packed) g
+    (restored .ensures) (c .before .before .before .before .before .before .before .before .before .before .before .before .before .pre .1) (a .name) (at .result) _ (at .ensures) (c .before .before .before .before .if1 .taken) refl refl refl
+
+settle-requires : tie.Need-settle-requires
+settle-requires c κs = c .before .before .before .before .before .before .before .before .before .before .pre .3
 
 lay-checked-requires : tie.Need-lay-checked-requires
 lay-checked-requires c κs =
-    let at = c .before .before .before .before in
-    let a = start at .args in
-    let held = stands (a .file .now) (a .day) (a .rows) (a .places) (a .opens .now) (a .reserves .now) (a .helds .now) 0 (sym (start at .pre .1)) refl in
-    checked-lays (a .file .now) (a .day) (a .rows) (a .places) (a .opens .now) (a .reserves .now) (a .helds .now) (start at .pre .1)
-    (omega (arith, held .few, start at)) (a .table .now) (a .opened .now) (a .closed .now) (a .same) (start at .pre .2)
+    let a = c .before .before .before .before .before .before .before .before .before .before .before .before .before .before .before .before .args in
+    let h₁ = c .before .before .before .before .before .settle .last .1 .0 in
+    let held = stands (a .file .now) (a .day) (a .rows) (a .places) (a .opens .now) (a .reserves .now) h₁ 0 (sym (passed (c .before .before .before .before .before))) refl in
+    checked-lays (a .file .now) (a .day) (a .rows) (a .places) (a .opens .now) (a .reserves .now) h₁ (passed (c .before .before .before .before .before))
+    (omega (arith, held .few, c .before .before .before .before .before .before .before .before .before .before .before .before .before .before .before .before)) (a .table .now) (a .opened .now) (a .closed .now) (a .same) (standing (c .before .before .before .before .before))
 
 drop-kept-requires : tie.Need-drop-kept-requires
 drop-kept-requires c κs =
-    let laid = c .before .before .before .before .before .before .before .before .before in
-    let at = laid .before .before .before .before .before in
-    let a = start at .args in
-    let held = stands (a .file .now) (a .day) (a .rows) (a .places) (a .opens .now) (a .reserves .now) (a .helds .now) 0 (sym (start at .pre .1)) refl in (
-      start at .pre .0,
-      laid-passed (a .file .now) (a .day) (a .rows) (a .places) (a .opens .now) (a .reserves .now) (a .helds .now) (start at .pre .1)
-          (omega (arith, held .few, start at)) (a .table .now) (a .opened .now) (a .closed .now) (a .same) (start at .pre .2) _ _ _ (laid .lay-checked .ensures),
-      laid-kept (a .file .now) (a .day) (a .rows) (a .places) (a .opens .now) (a .reserves .now) (a .helds .now) (start at .pre .1)
-          (omega (arith, held .few, start at)) (a .table .now) (a .opened .now) (a .closed .now) (a .same) (start at .pre .2) _ _ _ (laid .lay-checked .ensures),
+    let a = c .before .before .before .before .before .before .before .before .before .before .before .before .before .before .before .before .before .before .before .before .before .before .before .before .before .before .args in
+    let h₁ = c .before .before .before .before .before .before .before .before .before .before .before .before .before .before .before .settle .last .1 .0 in
+    let laid = c .before .before .before .before .before .before .before .before .before .lay-checked .ensures in
+    let held = stands (a .file .now) (a .day) (a .rows) (a .places) (a .opens .now) (a .reserves .now) h₁ 0 (sym (passed (c .before .before .before .before .before .before .before .before .before .before .before .before .before .before .before))) refl in (
+      c .before .before .before .before .before .before .before .before .before .before .before .before .before .before .before .before .before .before .before .before .before .before .before .before .before .before .pre .0,
+      laid-passed (a .file .now) (a .day) (a .rows) (a .places) (a .opens .now) (a .reserves .now) h₁ (passed (c .before .before .before .before .before .before .before .before .before .before .before .before .before .before .before)) (omega (arith, held .few, c .before .before .before .before .before .before .before .before .before .before .before .before .before .before .before .before .before .before .before .before .before .before .before .before .before .before))
+          (a .table .now) (a .opened .now) (a .closed .now) (a .same) (standing (c .before .before .before .before .before .before .before .before .before .before .before .before .before .before .before)) _ _ _ laid,
+      laid-kept (a .file .now) (a .day) (a .rows) (a .places) (a .opens .now) (a .reserves .now) h₁ (passed (c .before .before .before .before .before .before .before .before .before .before .before .before .before .before .before)) (omega (arith, held .few, c .before .before .before .before .before .before .before .before .before .before .before .before .before .before .before .before .before .before .before .before .before .before .before .before .before .before))
+          (a .table .now) (a .opened .now) (a .closed .now) (a .same) (standing (c .before .before .before .before .before .before .before .before .before .before .before .before .before .before .before)) _ _ _ laid,
     )
 
 same-length-2 : tie.Need-same-length-2
@@ -64,20 +82,18 @@ same-length-3 : tie.Need-same-length-3
 same-length-3 c = search needs
 
 same-length-4 : tie.Need-same-length-4
-same-length-4 c = search needs
+same-length-4 c = let held = c .before .before .before .before .before .before .before .before .before .before .before .before .before .before .before .before .before .before .before .before .before .before .settle in omega (arith, held .kept .1 .0)
 
 returns-2 : tie.Need-returns-2
 returns-2 c =
-    let dropped = c .before .before .before .before .before .before in
-    let laid = dropped .before .before .before .before .before .before .before .before .before .before in
-    let found = laid .before .before .before .before in
-    let at = found .before in
-    let a = start at .args in
-    let held = stands (a .file .now) (a .day) (a .rows) (a .places) (a .opens .now) (a .reserves .now) (a .helds .now) 0 (sym (start at .pre .1)) refl in
+    let a = c .before .before .before .before .before .before .before .before .before .before .before .before .before .before .before .before .before .before .before .before .before .before .before .before .before .before .before .before .before .before .before .before .before .args in
+    let h₁ = c .before .before .before .before .before .before .before .before .before .before .before .before .before .before .before .before .before .before .before .before .before .before .settle .last .1 .0 in
+    let at = c .before .before .before .before .before .before .before .before .before .before .before .before .before .before .before .before .before .before .before .before .before .before .before .before .before .position in
+    let held = stands (a .file .now) (a .day) (a .rows) (a .places) (a .opens .now) (a .reserves .now) h₁ 0 (sym (passed (c .before .before .before .before .before .before .before .before .before .before .before .before .before .before .before .before .before .before .before .before .before .before))) refl in
     λ lent g.
-    lent-drops (a .file .now) (a .day) (a .rows) (a .places) (a .opens .now) (a .reserves .now) (a .helds .now) lent (a .blank) g (start at .pre .1)
-    (omega (arith, held .few, start at)) (a .table .now) (a .opened .now) (a .closed .now) (a .same) (start at .pre .2) _ _ _ (laid .lay-checked .ensures) (a .name)
-    (at .position .result) (at .position .ensures) (found .if1 .left) _ _ _ _ (dropped .drop-kept .ensures)
+    lent-drops (a .file .now) (a .day) (a .rows) (a .places) (a .opens .now) (a .reserves .now) h₁ lent (a .helds .now) (a .packed) g (c .before .before .before .before .before .before .before .before .before .before .before .before .before .before .before .before .before .before .before .before .before .before .settle .ensures)
+    (passed (c .before .before .before .before .before .before .before .before .before .before .before .before .before .before .before .before .before .before .before .before .before .before)) (omega (arith, held .few, c .before .before .before .before .before .before .before .before .before .before .before .before .before .before .before .before .before .before .before .before .before .before .before .before .before .before .before .before .before .before .before .before .before)) (a .table .now) (a .opened .now) (a .closed .now) (a .same) (standing (c .before .before .before .before .before .before .before .before .before .before .before .before .before .before .before .before .before .before .before .before .before .before)) _ _ _
+    (c .before .before .before .before .before .before .before .before .before .before .before .before .before .before .before .before .lay-checked .ensures) (a .name) (at .result) (at .ensures) (c .before .before .before .before .before .before .before .before .before .before .before .before .before .before .before .before .before .before .before .before .before .before .before .before .if1 .left) _ _ _ _ (c .before .before .before .before .before .before .drop-kept .ensures)
 
 pub drop-checked-spec : {M : Type 1} → statement M
 drop-checked-spec =
@@ -87,6 +103,7 @@ drop-checked-spec =
     restore-requires
     same-length
     returns
+    settle-requires
     lay-checked-requires
     drop-kept-requires
     same-length-2

@@ -7,7 +7,7 @@ use borrow.Author.Tests.{le-leb, lt-leb}
 use lib.ListN.{take}
 use lib.Seq.{length-take-le}
 use Rattle.limits.specs.Bounds.{maxBookings}
-use Rattle.sheet.specs.SettleLaws.{settled-left}
+use Rattle.sheet.specs.PackedLaws.{settled-left}
 use Rattle.questions.specs.Numbers.{soundHolds}
 use Rattle.questions.proofs.soundness.sound_holds.Statement.{statement}
 use Rattle.questions.proofs.soundness.sound_holds.Tie as tie
@@ -25,7 +25,7 @@ returns c =
         held = λ rows l w z. absurd (true≢false (sym z ∙ c .unsound .ensures .1));
         events = λ z. absurd (true≢false (sym z ∙ c .unsound .ensures .0));
       },
-      (start .pre .2, (settled-left (c .unsound .result .blank) (a .day .rounds) (a .helds .now) (a .helds .now) (c .unsound .ensures .2) refl, λ z. c .unsound .ensures .2)),
+      (start .pre .2, (settled-left (c .unsound .result .packed) (a .day .rounds) (a .helds .now) (c .unsound .ensures .2) (c .unsound .ensures .3), λ z. c .unsound .ensures .3)),
     )
 
 unsound-requires-2 : tie.Need-unsound-requires-2
@@ -42,7 +42,7 @@ returns-2 c =
         held = λ rows l w z. absurd (true≢false (sym z ∙ c .unsound2 .ensures .1));
         events = λ z. absurd (true≢false (sym z ∙ c .unsound2 .ensures .0));
       },
-      (start .pre .2, (settled-left (c .unsound2 .result .blank) (a .day .rounds) (a .helds .now) (a .helds .now) (c .unsound2 .ensures .2) refl, λ z. c .unsound2 .ensures .2)),
+      (start .pre .2, (settled-left (c .unsound2 .result .packed) (a .day .rounds) (a .helds .now) (c .unsound2 .ensures .2) (c .unsound2 .ensures .3), λ z. c .unsound2 .ensures .3)),
     )
 
 sound-list-requires : tie.Need-sound-list-requires

@@ -7,7 +7,8 @@ use native.Mathlib.Omega.{arith}
 use borrow.Author.Tests.{not-true, not-false}
 use lib.ListN.{take, length}
 use Rattle.films.specs.Catalogue.{catalogueOf}
-use Rattle.sheet.specs.SettleLaws.{settled-left}
+use Rattle.sheet.specs.Packed.{heldsOf}
+use Rattle.sheet.specs.PackedLaws.{settled-left}
 use Rattle.table.specs.Streams.{streams, streams-length}
 use Rattle.questions.specs.Given.{settingAt}
 use Rattle.questions.specs.Listed.{basic-each, listed-playable, table-tied, table-sound}
@@ -30,7 +31,7 @@ returns c =
         held = λ bs e w z. absurd (true≢false (sym z ∙ c .unsound .ensures .1));
         events = λ z. absurd (true≢false (sym z ∙ c .unsound .ensures .0));
       },
-      (start .pre .3, (settled-left (c .unsound .result .blank) (a .day .rounds) (a .helds .now) (a .helds .now) (c .unsound .ensures .2) refl, λ z. c .unsound .ensures .2)),
+      (start .pre .3, (settled-left (c .unsound .result .packed) (a .day .rounds) (a .helds .now) (c .unsound .ensures .2) (c .unsound .ensures .3), λ z. c .unsound .ensures .3)),
     )
 
 all-basic-requires : tie.Need-all-basic-requires
@@ -49,7 +50,7 @@ returns-2 c =
         held = λ bs e w z. absurd (true≢false (sym z ∙ c .unsound2 .ensures .1));
         events = λ z. absurd (true≢false (sym z ∙ c .unsound2 .ensures .0));
       },
-      (start .pre .3, (settled-left (c .unsound2 .result .blank) (a .day .rounds) (a .helds .now) (a .helds .now) (c .unsound2 .ensures .2) refl, λ z. c .unsound2 .ensures .2)),
+      (start .pre .3, (settled-left (c .unsound2 .result .packed) (a .day .rounds) (a .helds .now) (c .unsound2 .ensures .2) (c .unsound2 .ensures .3), λ z. c .unsound2 .ensures .3)),
     )
 
 gather-requires : tie.Need-gather-requires
@@ -102,7 +103,7 @@ returns-3 c =
         held =
             λ bs e w z.
             agrees-kept (settingAt (a .file .now) (a .day)) (a .file .now) bs (take (a .count) (streams (a .table .now)))
-            (table-tied (a .file .now) (a .day) bs (a .table .now) (a .count) (start .pre .0) (start .pre .1) e w) (tested .last .1 .1 .1 .1 .1 .1 .1 .1 .0) (sound .1 z);
+            (table-tied (a .file .now) (a .day) bs (a .table .now) (a .count) (start .pre .0) (start .pre .1) e w) (heldsOf (tested .result .packed) (tested .last .1 .1 .1 .1 .1 .1 .1 .1 .0)) (sound .1 z);
         events = λ z. gathered .0;
       },
       (

@@ -7,7 +7,7 @@ use native.Mathlib.Omega.{arith}
 use borrow.Author.Tests.{not-true, not-false}
 use lib.ListN.{take}
 use lib.Seq.{length-take-le}
-use Rattle.sheet.specs.SettleLaws.{settled-left}
+use Rattle.sheet.specs.PackedLaws.{settled-left}
 use Rattle.segments.specs.Timeline.{events-timeline}
 use Rattle.table.specs.RowLaws.{diskRow}
 use Rattle.table.specs.Streams.{streams}
@@ -28,7 +28,7 @@ returns c =
     let no = sym (c .before .before .pairs-clear .ensures) ∙ not-true _ (c .before .if1 .taken) in
     let a = c .before .before .before .before .before .before .before .before .args in (
       (c .unsound .ensures .0 ∙ sym (rw no), λ e. absurd (true≢false (sym e ∙ c .unsound .ensures .1))),
-      (settled-left (c .unsound .result .blank) (a .rounds) (a .helds .now) (a .helds .now) (c .unsound .ensures .2) refl, λ z. c .unsound .ensures .2),
+      (settled-left (c .unsound .result .packed) (a .rounds) (a .helds .now) (c .unsound .ensures .2) (c .unsound .ensures .3), λ z. c .unsound .ensures .3),
     )
 
 slice-aggregate-disk-kept : tie.Need-slice-aggregate-disk-kept
@@ -58,7 +58,7 @@ returns-2 c =
     let yes = sym (c .before .before .before .before .before .before .pairs-clear .ensures) ∙ not-false _ (c .before .before .before .before .before .if1 .left) in
     let no = sym disk ∙ not-true _ (c .before .if2 .taken) in (
       (c .unsound2 .ensures .0 ∙ sym (rw (yes, no)), λ e. absurd (true≢false (sym e ∙ c .unsound2 .ensures .1))),
-      (settled-left (c .unsound2 .result .blank) (a .rounds) (a .helds .now) (a .helds .now) (c .unsound2 .ensures .2) refl, λ z. c .unsound2 .ensures .2),
+      (settled-left (c .unsound2 .result .packed) (a .rounds) (a .helds .now) (c .unsound2 .ensures .2) (c .unsound2 .ensures .3), λ z. c .unsound2 .ensures .3),
     )
 
 held-within-requires : tie.Need-held-within-requires

@@ -1,11 +1,14 @@
 -- `questions::standing::examine` meets its contract: the first question that says no gives its number. Assumes nothing.
 use borrow.Author.Needs.{needs}
-use mathlib.Core.Path.{_≡_, refl, sym, ap, _∙_}
+use mathlib.Core.Path.{_≡_, refl, sym, ap, subst, _∙_}
+use mathlib.Core.List.{List}
+use Prim.Native.Nat.{ℕ}
 use mathlib.Core.Bool.{false, true≢false}
 use native.Mathlib.Omega.{arith}
 use borrow.Author.Tests.{not-true, not-false, eq-eqb, ne-eqb}
 use Rattle.films.specs.Questions.{verdict}
-use Rattle.sheet.specs.SettleLaws.{settled-left}
+use Rattle.sheet.specs.Packed.{Settled}
+use Rattle.sheet.specs.PackedLaws.{settled-none, settled-same}
 use Rattle.questions.specs.Numbers.{standingAsks, day-rounds-small}
 use Rattle.questions.proofs.standing.examine.Statement.{statement}
 use Rattle.questions.proofs.standing.examine.Tie as tie
@@ -21,7 +24,7 @@ returns c =
         held = λ rows l w z. absurd (true≢false (sym z));
         events = λ z. absurd (c .if1 .taken z);
       },
-      (start .pre .1, (settled-left false (a .day .rounds) (a .helds .now) (a .helds .now) refl refl, λ z. refl)),
+      (start .pre .1, (settled-none (a .day .rounds) (a .helds .now), λ z. refl)),
     )
 
 day-holds-requires : tie.Need-day-holds-requires
@@ -38,7 +41,7 @@ returns-2 c =
         held = λ rows l w z. absurd (true≢false (sym z));
         events = λ z. absurd (omega arith);
       },
-      (start .pre .1, (settled-left false (a .day .rounds) (a .helds .now) (a .helds .now) refl refl, λ z. refl)),
+      (start .pre .1, (settled-none (a .day .rounds) (a .helds .now), λ z. refl)),
     )
 
 limits-hold-requires : tie.Need-limits-hold-requires
@@ -55,7 +58,7 @@ returns-3 c =
         held = λ rows l w z. absurd (true≢false (sym z));
         events = λ z. absurd (omega arith);
       },
-      (start .pre .1, (settled-left false (a .day .rounds) (a .helds .now) (a .helds .now) refl refl, λ z. refl)),
+      (start .pre .1, (settled-none (a .day .rounds) (a .helds .now), λ z. refl)),
     )
 
 sheet-holds-requires : tie.Need-sheet-holds-requires
@@ -72,7 +75,7 @@ returns-4 c =
         held = λ rows l w z. absurd (true≢false (sym z));
         events = λ z. absurd (omega arith);
       },
-      (start .pre .1, (settled-left false (a .day .rounds) (a .helds .now) (a .helds .now) refl refl, λ z. refl)),
+      (start .pre .1, (settled-none (a .day .rounds) (a .helds .now), λ z. refl)),
     )
 
 sound-holds-requires : tie.Need-sound-holds-requires
@@ -104,7 +107,7 @@ returns-5 c =
         held = λ rows l w z. absurd (true≢false (sym z));
         events = λ z. absurd (omega arith);
       },
-      (told .ensures .1 .0, (settled-left false (a .day .rounds) (a .helds .now) (told .last .1 .1 .1 .1 .1 .1 .0) refl (told .ensures .1 .1 .0 .left (told .ensures .1 .1 .1 unsound)), λ z. refl)),
+      (told .ensures .1 .0, (subst (λ (l : List ℕ). Settled _ (a .day .rounds) l (told .last .1 .1 .1 .1 .1 .1 .0)) (settled-same (told .result .packed) (a .day .rounds) (a .helds .now) (told .last .1 .1 .1 .1 .1 .1 .0) (told .ensures .1 .1 .0) (told .ensures .1 .1 .1 unsound)) (settled-none (a .day .rounds) (told .last .1 .1 .1 .1 .1 .1 .0)), λ z. refl)),
     )
 
 same-length-4 : tie.Need-same-length-4
@@ -119,13 +122,13 @@ same-length-6 c = search needs
 returns-6 : tie.Need-returns-6
 unfolding standingAsks
 returns-6 c =
-    let start = c .before .before .before .before .before .before .before .before .before .before .before .before .before .before .before .before .before .before .before .before .before .before .before .before in
+    let start = c .before .before .before .before .before .before .before .before .before .before .before .before .before .before .before .before .before .before .before .before .before .before .before .before .before in
     let a = start .args in
     let v = start .pre .0 in
-    let told = c .before .before .before .before .before .before .before .before .sound-holds in
-    let sound = not-false _ (c .if5 .left) in (
+    let told = c .before .before .before .before .before .before .before .before .before .sound-holds in
+    let sound = not-false _ (c .before .if5 .left) in (
       record {
-        number = λ rows l w. rw (eq-eqb (verdict (a .file .now)) 0 (sym v ∙ c .before .before .before .before .before .before .before .before .before .before .before .before .before .before .before .before .before .before .if1 .left), sym (c .before .before .before .before .before .before .before .before .before .before .before .before .before .before .before .before .before .day-holds .ensures) ∙ not-false _ (c .before .before .before .before .before .before .before .before .before .before .before .before .before .before .before .before .if2 .left), sym (c .before .before .before .before .before .before .before .before .before .before .before .before .before .before .before .limits-hold .ensures) ∙ not-false _ (c .before .before .before .before .before .before .before .before .before .before .before .before .before .before .if3 .left), sym (c .before .before .before .before .before .before .before .before .before .before .before .before .before .sheet-holds .ensures) ∙ not-false _ (c .before .before .before .before .before .before .before .before .before .before .before .before .if4 .left), sym (told .ensures .0 .list rows l w) ∙ sound);
+        number = λ rows l w. rw (eq-eqb (verdict (a .file .now)) 0 (sym v ∙ c .before .before .before .before .before .before .before .before .before .before .before .before .before .before .before .before .before .before .before .if1 .left), sym (c .before .before .before .before .before .before .before .before .before .before .before .before .before .before .before .before .before .before .day-holds .ensures) ∙ not-false _ (c .before .before .before .before .before .before .before .before .before .before .before .before .before .before .before .before .before .if2 .left), sym (c .before .before .before .before .before .before .before .before .before .before .before .before .before .before .before .before .limits-hold .ensures) ∙ not-false _ (c .before .before .before .before .before .before .before .before .before .before .before .before .before .before .before .if3 .left), sym (c .before .before .before .before .before .before .before .before .before .before .before .before .before .before .sheet-holds .ensures) ∙ not-false _ (c .before .before .before .before .before .before .before .before .before .before .before .before .before .if4 .left), sym (told .ensures .0 .list rows l w) ∙ sound);
         held = told .ensures .0 .held;
         events = λ z. told .ensures .0 .events sound;
       },

@@ -1,4 +1,4 @@
--- `sheet::memory::same_places` meets its contract. The invariant: as long as what is joined is 0, the first i places are the same.
+-- `sheet::packed::same_places` meets its contract. The invariant: as long as what is joined is 0, the first i places are the same.
 -- The measure is what is left of the n. Assumes nothing.
 use mathlib.Core.Path.{_≡_, sym}
 use mathlib.Core.Bool.{true, true≢false}
@@ -9,8 +9,8 @@ use borrow.Author.Needs.{needs}
 use borrow.Author.Tests.{not-false, eqb-true}
 use lib.ListN.{length, getD}
 use Rattle.lists.specs.Joined.{or-none}
-use Rattle.sheet.proofs.memory.same_places.Statement.{statement}
-use Rattle.sheet.proofs.memory.same_places.Tie as tie
+use Rattle.sheet.proofs.packed.same_places.Statement.{statement}
+use Rattle.sheet.proofs.packed.same_places.Tie as tie
 
 abbrev Inv-loop : tie.InvT-loop
 Inv-loop asked list w window n joined₀ i₀ joined i =
@@ -67,7 +67,7 @@ loop-again c =
 returns-2 : tie.Need-returns-2 Inv-loop μ-loop
 returns-2 c =
     let l = c .before .loop in
-    λ e. (l .inv .0, λ k h. l .inv .3 (eqb-true (l .joined) 0 e) k (omega arith))
+    λ e k h. l .inv .3 (eqb-true (l .joined) 0 e) k (omega arith)
 
 pub same-places-spec : {M : Type 1} → statement M
 same-places-spec =

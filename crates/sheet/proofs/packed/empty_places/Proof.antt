@@ -1,4 +1,4 @@
--- `sheet::memory::empty_places` meets its contract. The invariant: as long as what is joined is 0, the places from a to t - 1 are 0.
+-- `sheet::packed::empty_places` meets its contract. The invariant: as long as what is joined is 0, the places from a to t - 1 are 0.
 -- The measure is what is left of them. Assumes nothing.
 use mathlib.Core.Path.{_≡_, sym}
 use mathlib.Core.Bool.{true, true≢false}
@@ -9,8 +9,8 @@ use borrow.Author.Needs.{needs}
 use borrow.Author.Tests.{not-false, eqb-true}
 use lib.ListN.{length, getD}
 use Rattle.lists.specs.Joined.{or-none}
-use Rattle.sheet.proofs.memory.empty_places.Statement.{statement}
-use Rattle.sheet.proofs.memory.empty_places.Tie as tie
+use Rattle.sheet.proofs.packed.empty_places.Statement.{statement}
+use Rattle.sheet.proofs.packed.empty_places.Tie as tie
 
 abbrev Inv-loop : tie.InvT-loop
 Inv-loop asked list a e joined₀ t₀ joined t =
@@ -57,7 +57,7 @@ loop-again c =
 returns-2 : tie.Need-returns-2 Inv-loop μ-loop
 returns-2 c =
     let l = c .before .loop in
-    λ z. (l .inv .0, λ k u h. l .inv .3 (eqb-true (l .joined) 0 z) k (omega arith) u)
+    λ z k u h. l .inv .3 (eqb-true (l .joined) 0 z) k (omega arith) u
 
 pub empty-places-spec : {M : Type 1} → statement M
 empty-places-spec =
