@@ -2,7 +2,7 @@
 use load::stream::Stream;
 use retrieval::carry_from;
 use retrieval::clear::clear;
-use sheet::memory::window_add;
+use sheet::window::window_add;
 use table::rows::move_down;
 use table::streams::stream_at;
 ghost use mathlib.Core.Path.{_≡_};

@@ -10,5 +10,6 @@ pub mod ListSound
 pub mod SheetOf
 pub mod Start
 pub mod Events
+pub mod Order
 pub mod Listed
 pub mod Laying

@@ -2,5 +2,6 @@
 pub mod asked;
 pub mod events;
 pub mod laying;
+pub mod order;
 mod soundness;
 pub mod standing;

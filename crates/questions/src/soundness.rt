@@ -1,5 +1,6 @@
 // Question 16, by the table of the bookings.
 use crate::events::gather;
+use crate::order::by_start;
 use limits::bounds::MAX_BOOKINGS;
 use model::Day;
 use segments::disk::disk_kept;
@@ -9,6 +10,7 @@ use sheet::packed::Packed;
 use table::sound::all_basic;
 use table::sound::names_differ;
 use table::sound::pairs_clear;
+use table::streams::TABLE_WORDS;
 ghost use mathlib.Core.Path.{_≡_};
 ghost use mathlib.Core.Bool.{true, false};
 ghost use Prim.Native.Nat.{_≤_};
@@ -18,11 +20,14 @@ ghost use Rattle.films.specs.Questions.{verdict};
 ghost use Rattle.load.specs.Basic.{Playable, Within, EachOf};
 ghost use Rattle.table.specs.Columns.{tableWords};
 ghost use Rattle.table.specs.Streams.{streams};
-ghost use Rattle.sheet.specs.Memory.{Agrees};
+ghost use Rattle.sheet.specs.Memory.{Agrees, Tells};
 ghost use Rattle.sheet.specs.Packed.{heldsOf, Settled};
 ghost use Rattle.questions.specs.Events.{Gathered};
 ghost use Rattle.questions.specs.Sound.{streamsSound};
 ghost use Rattle.questions.specs.Listed.{Listed, Workspace, TellsSound, TellsHolds};
+
+// rows that are worth sorting, at least
+const SORTED: usize = 4;
 
 // An answer that is no.
 fn unsound() -> Checked
@@ -33,6 +38,27 @@ fn unsound() -> Checked
         same: false,
         packed: Packed { bits: 0, rounds: 0 },
     }
+}
+
+// `held_within`, on the rows in the order of their starts: it adds rows two by two, and those that start near each other show together.
+fn held_sorted(
+    file: &[u8],
+    table: &[u64],
+    count: usize,
+    rounds: usize,
+    memory: u64,
+    helds: &mut [u64],
+) -> Checked
+    requires { ⌜ (tableWords ≤ length (now table)) × (count ≤ maxBookings) × EachOf (Playable (now file)) count (streams (now table)) × EachOf (Within rounds) count (streams (now table)) ⌝ }
+    ensures { λ r. ⌜ Tells (now (file .entry)) (take count (streams (now (table .entry)))) memory rounds (heldsOf (r .packed) (now (helds .exit))) (r .kept) (r .same) ⌝ }
+    ensures { λ r. ⌜ (Settled (r .packed) rounds (now (helds .entry)) (now (helds .exit)) × (r .kept ≡ false → r .packed .rounds ≡ 0)) ⌝ }
+{
+    if count < SORTED {
+        return held_within(file, table, count, rounds, memory, helds);
+    }
+    let mut sorted = [0u64; TABLE_WORDS];
+    by_start(table, count, &mut sorted);
+    held_within(file, &sorted, count, rounds, memory, helds)
 }
 
 // Whether no cab shows two films, every round keeps both limits, and each stream has a schedule; and whether `helds` has what
@@ -58,7 +84,7 @@ fn streams_sound(
     if !disk_kept(&opened[..count], &closed[..count], disk) {
         return unsound();
     }
-    held_within(file, table, count, rounds, memory, helds)
+    held_sorted(file, table, count, rounds, memory, helds)
 }
 
 // Is the list of the first `count` bookings sound, by their table? And has `helds` what they hold by round? The file is accepted. Of a

@@ -17,5 +17,6 @@ pub mod ReserveLaws
 pub mod SheetLaws
 pub mod Parts
 pub mod Shown
+pub mod Both
 pub mod Written
 pub mod Tests

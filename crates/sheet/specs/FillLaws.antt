@@ -3,6 +3,7 @@ use mathlib.Core.Path.{_≡_, refl, sym, ap, ap₂, _∙_}
 use mathlib.Core.Bool.{Bool, true, false, _&&_}
 use mathlib.Core.List.{List, [], _∷_, _++_, append-nil}
 use Prim.Native.Nat.{ℕ, zero, suc, _+_, _-_, _*_, _^_, _≤_, _<_}
+use native.Mathlib.Decide.{decLe}
 use native.Mathlib.Nat.{not-suc-le-zero}
 use native.Mathlib.Numerals.{add-one}
 use native.Mathlib.Omega.{arith}
@@ -21,6 +22,7 @@ use Rattle.retrieval.specs.Stored.{maxHeld, largest-bound}
 use Rattle.load.specs.Stream.{noStream, sendsOf, total, holdsIn, heldIn, carryFrom}
 use Rattle.load.specs.Basic.{Playable, Within, EachOf}
 use Rattle.sheet.specs.Memory.{feasible, memoryKept, Spans, openUntil, Windowed, Added, Fills, Filled, WindowKept}
+use Rattle.sheet.specs.Two.{WindowedTwo, AddedTwo}
 use Rattle.sheet.specs.WindowLaws.{carry-late}
 use Rattle.sheet.specs.OpenLaws.{skip-carried, skip-kept}
 use Rattle.load.specs.declared.stream.Stream.{Stream}
@@ -99,6 +101,58 @@ module _ (f : List ℕ) (xs : List Stream) (n : ℕ) (window₀ left₀ : List �
               (getD-set-same left i c 0 (omega (arith, g .size, a .size)) ∙ d .carried);
           rest = λ k u v. getD-set-other left i k c 0 (λ z. omega arith) ∙ g .rest k (omega arith) v;
         }
+
+  -- two streams at once
+  module _ (window left : List ℕ) (i : ℕ) (h : i + 1 < n) (g : Filling f xs n window₀ left₀ w e window left i) where
+    pub filling-asks-two : WindowedTwo f (getD xs i noStream) (getD xs (i + 1) noStream) window w e (getD left i 0) (getD left (i + 1) 0)
+    filling-asks-two =
+        record {
+          first = a .streams i (omega arith);
+          second = a .streams (i + 1) h;
+          order = a .order;
+          places = omega (arith, a .places, g .same);
+          first-carried = g .rest i (omega arith) (omega arith);
+          second-carried = g .rest (i + 1) (omega arith) h;
+          room = omega (arith, g .most, a .few);
+        }
+
+    pub filling-two : (after : List ℕ) (c d : ℕ) → n ≤ length xs → AddedTwo f (getD xs i noStream) (getD xs (i + 1) noStream) window after w e c d
+        → Filling f xs n window₀ left₀ w e after (set (set left i c) (i + 1) d) (i + 2)
+    filling-two after c d l b =
+        record {
+          within = omega arith;
+          same = b .same ∙ g .same;
+          size = length-set (set left i c) (i + 1) d ∙ length-set left i c ∙ g .size;
+          held =
+              λ t u v.
+              let more : i + 1 + 1 ≡ i + 2 = omega arith in
+              omega (
+                arith,
+                b .held t u v,
+                g .held t u v,
+                total-take (holdsIn f t) xs i noStream (omega arith),
+                rw more at (total-take (holdsIn f t) xs (i + 1) noStream (omega arith)),
+              );
+          most = omega (arith, b .most, g .most);
+          done = λ k u. done k u (decLe i k) (decLe (i + 1) k);
+          rest = λ k u v. other k (λ z. omega arith) (λ z. omega arith) ∙ g .rest k (omega arith) v;
+        }
+      where
+        other : (k : ℕ) → (k ≡ i → ⊥) → (k ≡ i + 1 → ⊥) → getD (set (set left i c) (i + 1) d) k 0 ≡ getD left k 0
+        other k p q =
+            getD-set-other (set left i c) (i + 1) k d 0 (λ z. q z) ∙ getD-set-other left i k c 0 (λ z. p z)
+
+        done : (k : ℕ) → k < i + 2 → Dec (i ≤ k) → Dec (i + 1 ≤ k) → getD (set (set left i c) (i + 1) d) k 0 ≡ carryFrom f w (getD xs k noStream)
+        done k u (no p) q = other k (λ z. omega arith) (λ z. omega arith) ∙ g .done k (omega arith)
+        done k u (yes p) (no q) =
+            let z : k ≡ i = omega arith in
+            rw z
+            (getD-set-other (set left i c) (i + 1) i d 0 (λ y. omega arith)
+            ∙ getD-set-same left i c 0 (omega (arith, g .size, a .size))
+            ∙ b .first-carried)
+        done k u (yes p) (yes q) =
+            let z : k ≡ i + 1 = omega arith in
+            rw z (getD-set-same (set left i c) (i + 1) d 0 (omega (arith, length-set left i c, g .size, a .size)) ∙ b .second-carried)
 
   pub filling-all : (window left : List ℕ) (i : ℕ) → i ≡ n → Filling f xs n window₀ left₀ w e window left i
       → Filled f xs n window w e left

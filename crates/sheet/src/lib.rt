@@ -2,3 +2,4 @@
 pub mod memory;
 pub mod packed;
 pub mod sheet;
+pub mod window;

@@ -5,9 +5,12 @@ use crate::packed::Packed;
 use crate::packed::restore;
 use crate::packed::settle_gap;
 use crate::packed::settle_window;
+use crate::window::add_two;
+use crate::window::larger;
+use crate::window::smaller;
+use crate::window::window_add;
 use limits::bounds::MAX_BOOKINGS;
 use lists::joined::all_within;
-use load::stream::Stream;
 use retrieval::clear::clear;
 use table::streams::stream_at;
 ghost use mathlib.Core.Path.{_≡_};
@@ -20,7 +23,7 @@ ghost use Rattle.laws.specs.Tests.{all};
 ghost use Rattle.load.specs.Basic.{Bounded, Playable, Within, EachOf};
 ghost use Rattle.table.specs.Columns.{tableWords};
 ghost use Rattle.table.specs.Streams.{streams};
-ghost use Rattle.sheet.specs.Memory.{Spans, later, openUntil, earlier, openFrom, Windowed, Added, Fills, Filled, WindowKept, Tells};
+ghost use Rattle.sheet.specs.Memory.{Spans, later, openUntil, earlier, openFrom, Fills, Filled, WindowKept, Tells};
 ghost use Rattle.sheet.specs.Packed.{heldsOf, Settled};
 
 // rounds in a window, at most
@@ -35,20 +38,6 @@ pub struct Checked {
     pub kept: bool,
     pub same: bool,
     pub packed: Packed,
-}
-
-// The larger of two.
-fn larger(a: usize, b: usize) -> usize
-    ensures { λ r. ⌜ r ≡ max a b ⌝ }
-{
-    if a < b { b } else { a }
-}
-
-// The smaller of two.
-fn smaller(a: usize, b: usize) -> usize
-    ensures { λ r. ⌜ r ≡ min a b ⌝ }
-{
-    if a < b { a } else { b }
 }
 
 // Writes the starts and the ends, s + p + n, of the first `count` streams.
@@ -113,34 +102,8 @@ fn open_from(starts: &[usize], ends: &[usize], count: usize, w: usize, last: usi
     m
 }
 
-// Adds what the stream holds in the rounds from w to e - 1 to the first places of the window, where c is the carry of its
-// rounds from e on. Gives the carry of its rounds from w on.
-pub fn window_add(file: &[u8], x: Stream, window: &mut [u64], w: usize, e: usize, c: u64) -> u64
-    requires { ⌜ Windowed (now file) x (now window) w e c ⌝ }
-    ensures { λ r. ⌜ Added (now (file .entry)) x (now (window .entry)) (now (window .exit)) w e r ⌝ }
-{
-    let s = x.start;
-    let first = larger(w, s);
-    let last = smaller(s + x.prefetch + x.rounds, e);
-    if last <= first {
-        return c;
-    }
-    let place = first - w;
-    retrieval::add_held(
-        &mut window[place..],
-        file,
-        x.at,
-        x.rounds,
-        x.prefetch,
-        x.reserve,
-        first - s,
-        last - s,
-        c,
-    )
-}
-
-// Fills an empty window with what the first `count` streams hold in the rounds from w to e - 1, and turns `carries`, those of
-// their rounds from e on, into those of their rounds from w on.
+// Fills an empty window with what the first `count` streams hold in the rounds from w to e - 1, two by two, and turns `carries`, those
+// of their rounds from e on, into those of their rounds from w on.
 fn window_fill(
     file: &[u8],
     table: &[u64],
@@ -154,11 +117,20 @@ fn window_fill(
     ensures { λ _. ⌜ Filled (now (file .entry)) (streams (now (table .entry))) count (now (window .exit)) w e (now (carries .exit)) ⌝ }
 {
     let mut i = 0;
-    while i < count {
+    while i + 1 < count {
+        let x = stream_at(table, i);
+        let y = stream_at(table, i + 1);
+        let c = carries[i];
+        let d = carries[i + 1];
+        let left = add_two(file, x, y, window, w, e, c, d);
+        carries[i] = left.first;
+        carries[i + 1] = left.second;
+        i += 2;
+    }
+    if i < count {
         let x = stream_at(table, i);
         let c = carries[i];
         carries[i] = window_add(file, x, window, w, e, c);
-        i += 1;
     }
 }
 

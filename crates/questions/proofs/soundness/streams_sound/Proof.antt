@@ -61,8 +61,8 @@ returns-2 c =
       (settled-left (c .unsound2 .result .packed) (a .rounds) (a .helds .now) (c .unsound2 .ensures .2) (c .unsound2 .ensures .3), λ z. c .unsound2 .ensures .3),
     )
 
-held-within-requires : tie.Need-held-within-requires
-held-within-requires c κs = search needs
+held-sorted-requires : tie.Need-held-sorted-requires
+held-sorted-requires c κs = search needs
 
 same-length : tie.Need-same-length
 same-length c = search needs
@@ -74,7 +74,7 @@ returns-3 c =
     let disk = gathered-kept (streams (a .table .now)) (a .count) (a .opened .now) (a .closed .now) (start .pre .4) (a .disk) _ (c .before .before .before .before .before .disk-kept .ensures) in
     let yes = sym (c .before .before .before .before .before .before .before .before .before .pairs-clear .ensures) ∙ not-false _ (c .before .before .before .before .before .before .before .before .if1 .left) in
     let kept = sym disk ∙ not-false _ (c .before .before .before .before .if2 .left) in
-    let held = c .before .before .held-within in
+    let held = c .before .before .held-sorted in
     ((rw (yes, kept) (held .ensures .0 .0), held .ensures .0 .1), held .ensures .1)
 
 pub streams-sound-spec : {M : Type 1} → statement M
@@ -89,6 +89,6 @@ streams-sound-spec =
     disk-kept-requires
     unsound-requires-2
     returns-2
-    held-within-requires
+    held-sorted-requires
     same-length
     returns-3)

@@ -1,10 +1,10 @@
--- `sheet::memory::window_add` meets its contract. The window's part from the stream's first round in it on is lent. Assumes nothing.
+-- `sheet::window::window_add` meets its contract. The window's part from the stream's first round in it on is lent. Assumes nothing.
 use Prim.Native.Nat.{_-_}
 use native.Mathlib.Omega.{arith}
 use borrow.Author.Needs.{needs}
 use Rattle.sheet.specs.WindowLaws.{added-none, adds, added}
-use Rattle.sheet.proofs.memory.window_add.Statement.{statement}
-use Rattle.sheet.proofs.memory.window_add.Tie as tie
+use Rattle.sheet.proofs.window.window_add.Statement.{statement}
+use Rattle.sheet.proofs.window.window_add.Tie as tie
 
 larger-requires : tie.Need-larger-requires
 larger-requires c κs = search needs
