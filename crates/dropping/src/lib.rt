@@ -2,6 +2,7 @@
 pub mod removal;
 mod taking;
 
+use crate::removal::close_gap;
 use crate::removal::position;
 use crate::removal::without;
 use crate::taking::take_stream;
@@ -188,7 +189,21 @@ fn drop_checked(
         reserves,
         helds,
     );
-    drop_kept(file, c, day, rows, places, name, opens, reserves, helds)
+    let b = rows[i];
+    let x = stream_of(c, b);
+    let mut profile = [0u64; MAX_LENGTH];
+    take_stream(file, x, &mut profile, opens, reserves, helds);
+    DropOutcome {
+        answer: Answer::Dropped,
+        day: Day {
+            rounds: day.rounds,
+            disk: day.disk,
+            memory: day.memory,
+            now: day.now,
+            count: day.count - 1,
+        },
+        rows: close_gap(rows, count, i),
+    }
 }
 
 // Takes the booking of this name out of the list: the gap is closed, the place freed is zeroed, and the sheet is worked out
