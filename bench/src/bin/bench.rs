@@ -134,12 +134,13 @@ fn main() {
         texts.push(("ratios", ratios.summary()));
     }
     if wanted("console") {
-        let fast_hall = env::current_exe()
-            .expect("a path")
-            .with_file_name("fast_hall");
+        let here = env::current_exe().expect("a path");
+        let fast_hall = here.with_file_name("fast_hall");
+        let obvious_hall = here.with_file_name("obvious_hall");
         let hall = fs::canonicalize(&options.hall).expect("`rt check hall` builds the program");
         let folder = env::temp_dir().join(format!("bench-console-{}", std::process::id()));
-        texts.push(("console", console(&hall, &fast_hall, &folder)));
+        let text = console(&hall, &fast_hall, &obvious_hall, &folder);
+        texts.push(("console", text));
         let _ = fs::remove_dir_all(&folder);
     }
     let mut picture = None;

@@ -1,6 +1,7 @@
 //! The scheduler as one would first write it: every call works everything out anew, and a booking tries start after start, each
 //! time with the schedules and the load of all bookings.
 
+pub mod console;
 mod desk;
 mod films;
 

@@ -1,4 +1,4 @@
-//! Lines per second of the program `hall`, beside the same console over the fast version.
+//! Lines per second of the program `hall`, beside the same console over the fast and over the obvious version.
 
 use crate::days::{films, PREFETCH};
 use crate::document::{grouped, table};
@@ -84,8 +84,8 @@ fn run(program: &Path, folder: &Path, input: &Path, output: &Path) {
     assert!(status.success());
 }
 
-/// The table, with the program `hall` and the console over the fast version at these paths.
-pub fn console(hall: &Path, fast_hall: &Path, folder: &Path) -> String {
+/// The table, with the program `hall` and the consoles over the fast and over the obvious version at these paths.
+pub fn console(hall: &Path, fast_hall: &Path, obvious_hall: &Path, folder: &Path) -> String {
     fs::create_dir_all(folder).expect("the folder is made");
     let file = encode(&films(FILMS, FILM));
     fs::write(folder.join("films.bin"), &file).expect("the films are written");
@@ -94,13 +94,17 @@ pub fn console(hall: &Path, fast_hall: &Path, folder: &Path) -> String {
         eprintln!("bench: console, {}", input.name);
         let path = folder.join("input");
         fs::write(&path, &input.text).expect("the input is written");
-        let outputs: [PathBuf; 2] = ["library", "fast"].map(|name| folder.join(name));
+        let outputs: [PathBuf; 3] = ["library", "fast", "obvious"].map(|name| folder.join(name));
         run(hall, folder, &path, &outputs[0]);
         run(fast_hall, folder, &path, &outputs[1]);
-        let [one, other] = outputs
+        let begin = children_time();
+        run(obvious_hall, folder, &path, &outputs[2]);
+        let slow = children_time() - begin;
+        let [one, other, third] = outputs
             .each_ref()
             .map(|path| fs::read(path).expect("an output"));
-        assert!(one == other, "{}: the outputs differ", input.name);
+        let same = one == other && one == third;
+        assert!(same, "{}: the outputs differ", input.name);
         let lines = input.text.lines().count() as f64;
         let effort = Effort {
             runs: 5,
@@ -117,6 +121,8 @@ pub fn console(hall: &Path, fast_hall: &Path, folder: &Path) -> String {
             format!("{:.1} %", times[0].spread()),
             grouped((lines / times[1].median()) as u64),
             format!("{:.2}", ratio(&times[0], &times[1])),
+            grouped((lines / slow) as u64),
+            format!("{:.0}", slow / times[0].median()),
         ]);
     }
     table(
@@ -127,6 +133,8 @@ pub fn console(hall: &Path, fast_hall: &Path, folder: &Path) -> String {
             "±",
             "fast console, lines/s",
             "time, hall / fast",
+            "obvious console, lines/s",
+            "time, obvious / hall",
         ],
         &rows,
     )

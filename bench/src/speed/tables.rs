@@ -96,7 +96,6 @@ pub fn grid_tables(effort: Effort, ratios: &mut Ratios) -> Vec<(&'static str, St
         for film in FILMS.into_iter().filter(|film| film + 20 < rounds) {
             let name = format!("{} / {}", grouped(rounds), grouped(film));
             let mut cells: Vec<Vec<String>> = vec![vec![name.clone()]; calls.len()];
-            let mut behind = vec![String::new(); calls.len()];
             for bookings in BOOKINGS {
                 let size = Size {
                     rounds,
@@ -116,29 +115,21 @@ pub fn grid_tables(effort: Effort, ratios: &mut Ratios) -> Vec<(&'static str, St
                         state.fixture.day.count -= 1;
                         state.fixture.lay_sheet();
                     }
-                    let contest = contest(call, &state, effort, bookings <= 64);
+                    let contest = contest(call, &state, effort, true);
                     ratios.put(&format!("{call_name}, {name}, {bookings}"), &contest);
                     spreads[place].push(contest.library.spread());
                     let mark = if contest.refusal == 0 { "" } else { " *" };
-                    cells[place].push(format!(
-                        "{} ({:.2}){mark}",
-                        seconds(contest.library.median()),
-                        contest.ratio()
-                    ));
-                    match contest.slow {
-                        Slow::Takes(time) => {
-                            behind[place] = format!("{:.0}", time / contest.library.median());
-                        }
-                        Slow::Over(time) => {
-                            let times = time / contest.library.median();
-                            behind[place] = format!("over {times:.0}");
-                        }
-                        Slow::NotTried => {}
-                    }
+                    let (time, ratio) = (contest.library.median(), contest.ratio());
+                    let behind = match contest.slow {
+                        Slow::Takes(slow) => format!("{:.0}", slow / time),
+                        Slow::Over(slow) => format!("over {:.0}", slow / time),
+                        Slow::NotTried => "–".to_string(),
+                    };
+                    let cell = format!("{} ({ratio:.2}; {behind}){mark}", seconds(time));
+                    cells[place].push(cell);
                 }
             }
-            for ((rows, mut cells), behind) in rows.iter_mut().zip(cells).zip(behind) {
-                cells.push(behind);
+            for (rows, cells) in rows.iter_mut().zip(cells) {
                 rows.push(cells);
             }
         }
@@ -150,7 +141,6 @@ pub fn grid_tables(effort: Effort, ratios: &mut Ratios) -> Vec<(&'static str, St
             "16 bookings",
             "64 bookings",
             "256 bookings",
-            "obvious / library, 64",
         ]
     };
     let tables = calls.iter().zip(rows).zip(spreads);
