@@ -3,8 +3,10 @@ ghost use mathlib.Core.Path.{_≡_};
 ghost use Prim.Native.Nat.{_+_, _*_, _≤_};
 ghost use lib.ListN.{length};
 ghost use Rattle.laws.specs.Questions.{refusal};
-ghost use Rattle.limits.specs.Bounds.{maxFilms, maxRounds};
+ghost use Rattle.limits.specs.Bounds.{maxFilms, maxRounds, maxSize};
+ghost use Rattle.films.specs.Sizes.{size};
 ghost use Rattle.films.specs.Questions.{filmsIn, roundsBefore, smallSizes, sizeQuestions};
+use crate::words::four_bytes_at;
 use crate::words::size_at;
 use crate::words::word_at;
 use limits::bounds::MAX_SIZE;
@@ -13,8 +15,11 @@ use limits::refusals::SIZE_COUNT;
 use limits::refusals::TRAILING;
 use limits::refusals::TRUNCATED;
 
+// sizes that are joined as they stand
+const FEW: usize = 8;
+
 // Are n sizes within the bound? Each is exactly if their join is, and a loop without a test becomes vector code.
-fn small(file: &[u8], from: usize, n: usize) -> bool
+fn join_small(file: &[u8], from: usize, n: usize) -> bool
     requires { ⌜ from + 4 * n ≤ length (now file) ⌝ }
     ensures { λ r. ⌜ r ≡ smallSizes (now (file .entry)) from n ⌝ }
 {
@@ -25,6 +30,41 @@ fn small(file: &[u8], from: usize, n: usize) -> bool
         i += 1;
     }
     joined <= MAX_SIZE as u32
+}
+
+// `join_small` of n sizes, the first of which is within the bound, with words that begin in the middle of a size: of each word the
+// second byte is the top byte of the size, which is within the bound exactly if that byte is 0.
+fn middles_small(file: &[u8], from: usize, n: usize) -> bool
+    requires { ⌜ (from + 4 * n + 2 ≤ length (now file)) × (size (now file) from ≤ maxSize) ⌝ }
+    ensures { λ r. ⌜ r ≡ smallSizes (now (file .entry)) from n ⌝ }
+{
+    let mut joined: u32 = 0;
+    let mut i = 0;
+    while i < n {
+        joined = joined | four_bytes_at(file, from + 2 + 4 * i);
+        i += 1;
+    }
+    joined / 256 % 256 == 0
+}
+
+// Are n sizes within the bound? Sizes begin two bytes past a multiple of 4. From a size on whose middle is at a multiple of 16 up to
+// the last but one, middles are joined: 16 bytes read there lie in one line of the cache, wherever a file begins at a multiple of 16.
+fn small(file: &[u8], from: usize, n: usize) -> bool
+    requires { ⌜ from + 4 * n ≤ length (now file) ⌝ }
+    ensures { λ r. ⌜ r ≡ smallSizes (now (file .entry)) from n ⌝ }
+{
+    if n < FEW {
+        return join_small(file, from, n);
+    }
+    let first = 3 - (from + 1) % 16 / 4;
+    let last = n - 1;
+    if !join_small(file, from, first + 1) {
+        return false;
+    }
+    if !middles_small(file, from + 4 * first, last - first) {
+        return false;
+    }
+    join_small(file, from + 4 * last, 1)
 }
 
 // The questions after the entries, which number `count` and have `total` rounds.

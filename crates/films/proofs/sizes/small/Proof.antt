@@ -1,69 +1,102 @@
--- `films::sizes::small` meets its contract. The invariant: all sizes are within the bound exactly if the first i joined are, and
--- each of the others is. The measure is the sizes left. Assumes nothing.
-use Prim.Native.Nat.{_+_, _*_, _-_, _≤_}
-use mathlib.Core.Path.{_≡_, sym, _∙_}
-use mathlib.Core.Bool.{_&&_}
+-- `films::sizes::small` meets its contract: the sizes before the one whose middle is at a multiple of 16 and this one, those from it
+-- on up to the last but one, and the last. Assumes nothing.
+use Prim.Native.Nat.{_+_, _*_, _-_, _/_, _%_}
+use mathlib.Core.Path.{_≡_, sym, ap, _∙_}
+use mathlib.Core.Bool.{true, _&&_}
 use native.Mathlib.Omega.{arith}
 use borrow.Author.Needs.{needs}
-use lib.Dec.{leb}
-use Rattle.limits.specs.Bounds.{maxSize}
+use borrow.Author.Tests.{not-true, not-false}
 use Rattle.films.specs.Questions.{smallSizes}
-use Rattle.films.proofs.Laws.{small-none, small-next, small-end}
+use Rattle.films.proofs.Laws.{first-large, one-small, rest-small}
 use Rattle.films.proofs.sizes.small.Statement.{statement}
 use Rattle.films.proofs.sizes.small.Tie as tie
 
-abbrev Inv-loop : tie.InvT-loop
-Inv-loop file from n joined₀ i₀ joined i =
-    (i ≤ n) × (smallSizes file from n ≡ leb joined maxSize && smallSizes file (from + 4 * i) (n - i))
+join-small-requires : tie.Need-join-small-requires
+join-small-requires c κs = search needs
 
-abbrev μ-loop : tie.MeasureT-loop
-μ-loop file from n joined₀ i₀ joined i = n - i
+returns : tie.Need-returns
+returns c = search needs
 
-loop-holds : tie.Need-loop-holds Inv-loop μ-loop
-loop-holds c = let a = c .before .args in (omega arith, small-none (a .file .now) (a .from) (a .n))
+add-first : tie.Need-add-first
+add-first c = search needs
 
-mul-word-at : tie.Need-mul-word-at Inv-loop μ-loop
-mul-word-at c = search needs
+sub-first : tie.Need-sub-first
+sub-first c = search needs
 
-add-word-at : tie.Need-add-word-at Inv-loop μ-loop
-add-word-at c = search needs
+sub-last : tie.Need-sub-last
+sub-last c = search needs
 
-word-at-requires : tie.Need-word-at-requires Inv-loop μ-loop
-word-at-requires c κs = search needs
+add-join-small : tie.Need-add-join-small
+add-join-small c = search needs
 
-add-i : tie.Need-add-i Inv-loop μ-loop
-add-i c = search needs
+join-small-requires-2 : tie.Need-join-small-requires-2
+join-small-requires-2 c κs = search needs
 
-loop-less : tie.Need-loop-less Inv-loop μ-loop
-loop-less c = search needs
-
-loop-again : tie.Need-loop-again Inv-loop μ-loop
-loop-again c =
+returns-2 : tie.Need-returns-2
+returns-2 c =
     let a = c .before .before .before .before .args in
-    let l = c .before .before .loop in
-    (omega arith, l .inv .1 ∙ small-next (a .file .now) (a .from) (a .n) (l .i) (l .joined) (c .word-at .result) (omega arith) (c .word-at .ensures))
+    let first = 3 - (a .from + 1) % 16 / 4 in
+    sym (first-large (a .file .now) (a .from) (a .n) first (omega arith) (sym (c .before .join-small2 .ensures) ∙ not-true _ (c .if2 .taken)))
 
-cast-result : tie.Need-cast-result Inv-loop μ-loop
-cast-result c = search needs
+mul-middles-small : tie.Need-mul-middles-small
+mul-middles-small c = search needs
 
-returns : tie.Need-returns Inv-loop μ-loop
-returns c =
-    let a = c .before .before .before .args in
-    let l = c .before .loop in
-    sym (l .inv .1 ∙ small-end (a .file .now) (a .from + 4 * l .i) (a .n) (l .i) (l .joined) (omega arith))
+add-middles-small : tie.Need-add-middles-small
+add-middles-small c = search needs
+
+sub-middles-small : tie.Need-sub-middles-small
+sub-middles-small c = search needs
+
+middles-small-requires : tie.Need-middles-small-requires
+middles-small-requires c κs =
+    let a = c .before .before .before .before .args in
+    let first = 3 - (a .from + 1) % 16 / 4 in (
+      omega (arith, c .before .before .before .before .pre),
+      one-small (a .file .now) (a .from) (a .n) first (omega arith) (sym (c .before .join-small2 .ensures) ∙ not-false _ (c .if2 .left)),
+    )
+
+returns-3 : tie.Need-returns-3
+returns-3 c =
+    let a = c .before .before .before .before .before .before .args in
+    let first = 3 - (a .from + 1) % 16 / 4 in
+    let all = rest-small (a .file .now) (a .from) (a .n) first (omega arith) (sym (c .before .before .before .join-small2 .ensures) ∙ not-false _ (c .before .before .if2 .left)) in
+    sym (all ∙ ap (λ t. t && smallSizes (a .file .now) (a .from + 4 * (a .n - 1)) 1) (sym (c .before .middles-small .ensures) ∙ not-true _ (c .if3 .taken)))
+
+mul-join-small : tie.Need-mul-join-small
+mul-join-small c = search needs
+
+add-join-small-2 : tie.Need-add-join-small-2
+add-join-small-2 c = search needs
+
+join-small-requires-3 : tie.Need-join-small-requires-3
+join-small-requires-3 c κs = search needs
+
+returns-4 : tie.Need-returns-4
+returns-4 c =
+    let a = c .before .before .before .before .before .before .before .args in
+    let first = 3 - (a .from + 1) % 16 / 4 in
+    let all = rest-small (a .file .now) (a .from) (a .n) first (omega arith) (sym (c .before .before .before .before .join-small2 .ensures) ∙ not-false _ (c .before .before .before .if2 .left)) in
+    c .join-small3 .ensures
+    ∙ sym (all ∙ ap (λ t. t && smallSizes (a .file .now) (a .from + 4 * (a .n - 1)) 1) (sym (c .before .before .middles-small .ensures) ∙ not-false _ (c .before .if3 .left)))
 
 pub small-spec : {M : Type 1} → statement M
 small-spec =
     tie.close
     (tie.spec
-    Inv-loop
-    μ-loop
-    loop-holds
-    mul-word-at
-    add-word-at
-    word-at-requires
-    add-i
-    loop-less
-    loop-again
-    cast-result
-    returns)
+    join-small-requires
+    returns
+    add-first
+    sub-first
+    sub-last
+    add-join-small
+    join-small-requires-2
+    returns-2
+    mul-middles-small
+    add-middles-small
+    sub-middles-small
+    middles-small-requires
+    returns-3
+    mul-join-small
+    add-join-small-2
+    join-small-requires-3
+    returns-4)
