@@ -8,7 +8,7 @@ use native.Mathlib.Nat.{mul-le-mul}
 use native.Mathlib.Omega.{arith}
 use borrow.Author.Needs.{needs}
 use lib.Dec.{ltb}
-use lib.ListN.{length, getD, drop}
+use lib.ListN.{length, getD}
 use Rattle.limits.specs.Bounds.{maxSize, maxRounds, maxReserve}
 use Rattle.films.specs.Sizes.{sizes}
 use Rattle.retrieval.specs.Stored.{maxHeld, length-sizes, sizes-at, size-small, drop-sizes}

@@ -10,7 +10,7 @@ use lib.ListN.{length, getD}
 use Rattle.limits.specs.Bounds.{maxSize, maxRounds, maxPrefetch}
 use Rattle.films.specs.Sizes.{sizes}
 use Rattle.retrieval.specs.Stored.{maxHeld, length-sizes, sizes-at, size-small}
-use Rattle.planning.specs.Slopes.{raised, raised-within, Paced, paced-start, paced-turn}
+use Rattle.planning.specs.Slopes.{raised-within, Paced, paced-start, paced-turn}
 use Rattle.planning.proofs.reserves.paced.Statement.{statement}
 use Rattle.planning.proofs.reserves.paced.Tie as tie
 

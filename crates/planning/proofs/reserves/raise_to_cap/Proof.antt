@@ -1,12 +1,11 @@
 -- `planning::reserves::raise_to_cap` meets its contract, by its test. Assumes nothing.
 use mathlib.Core.Path.{_≡_}
-use Prim.Native.Nat.{_+_, _-_, _*_, _≤_}
+use Prim.Native.Nat.{_+_, _-_, _≤_}
 use native.Mathlib.Nat.{mul-le-mul}
 use native.Mathlib.Omega.{arith}
 use borrow.Author.Needs.{needs}
-use Rattle.limits.specs.Bounds.{maxRounds}
 use Rattle.retrieval.specs.Stored.{maxHeld}
-use Rattle.planning.specs.Slopes.{raised, raised-within}
+use Rattle.planning.specs.Slopes.{raised-within}
 use Rattle.planning.proofs.reserves.raise_to_cap.Statement.{statement}
 use Rattle.planning.proofs.reserves.raise_to_cap.Tie as tie
 

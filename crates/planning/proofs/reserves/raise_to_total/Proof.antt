@@ -5,7 +5,7 @@ use native.Mathlib.Nat.{mul-le-mul}
 use native.Mathlib.Omega.{arith}
 use borrow.Author.Needs.{needs}
 use Rattle.retrieval.specs.Stored.{maxHeld}
-use Rattle.planning.specs.Slopes.{raised, raised-within}
+use Rattle.planning.specs.Slopes.{raised-within}
 use Rattle.planning.proofs.reserves.raise_to_total.Statement.{statement}
 use Rattle.planning.proofs.reserves.raise_to_total.Tie as tie
 

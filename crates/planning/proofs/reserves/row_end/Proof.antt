@@ -1,6 +1,5 @@
 -- `planning::reserves::row_end` meets its contract, by its test. Assumes nothing.
-use mathlib.Core.Path.{_≡_}
-use Prim.Native.Nat.{_+_, _-_}
+use Prim.Native.Nat.{_-_}
 use native.Mathlib.Omega.{arith}
 use borrow.Author.Tests.{lt-ltb, le-ltb}
 use Rattle.planning.proofs.reserves.row_end.Statement.{statement}

@@ -1,7 +1,7 @@
 -- `planning::reserves::search` meets its contract. The invariant: hi serves, and whatever serves is at least lo. The measure
 -- is hi - lo. Assumes nothing.
 use mathlib.Core.Path.{_≡_}
-use Prim.Native.Nat.{ℕ, _≤_, _+_, _-_}
+use Prim.Native.Nat.{ℕ, _≤_, _-_}
 use native.Mathlib.Omega.{arith}
 use borrow.Author.Needs.{needs}
 use Rattle.films.specs.Sizes.{sizes}
