@@ -12,7 +12,6 @@ use Rattle.films.specs.Questions.{verdict}
 use Rattle.films.specs.Catalogue.{catalogueOf}
 use Rattle.films.specs.declared.types.Catalogue.{Catalogue}
 use Rattle.model.specs.Calls.{roundsInRange, dayInRange, limitsInRange, sheetLong, sound}
-use Rattle.model.specs.Expected.{expected}
 use Rattle.model.specs.FitLaws.{decFits}
 use Rattle.model.specs.Steps.{seen}
 use Rattle.model.specs.Claim.{InBetween}
@@ -21,7 +20,7 @@ use Rattle.questions.specs.Numbers.{roundsHold, dayHolds, limitsHold, sheetHold
 use Rattle.commands.specs.declared.Command.{Command}
 use Rattle.console.specs.Session.{SessionState, atStart, lentBy, stateAfter}
 use Rattle.console.specs.PlainSession.{PlainSession, unopened, onDay, plainCommand}
-use Rattle.console.specs.PlainLaws.{Stands, sessionOf, keeps}
+use Rattle.console.specs.PlainLaws.{Stands, keeps}
 
 module _ (file : List ℕ) where
   -- it stands before the first accepted OPEN, or on the plain day of the last one

@@ -4,7 +4,7 @@ use mathlib.Core.List.{List, _++_, map}
 use Prim.Native.Nat.{ℕ, _<_}
 use native.Mathlib.Omega.{arith}
 use lib.ListN.{take, drop}
-use Rattle.model.specs.Day.{Setting, State, scheduleOf, opened, reserved, held}
+use Rattle.model.specs.Day.{Setting, scheduleOf, opened, reserved, held}
 use Rattle.model.specs.Fit.{heldBy}
 use Rattle.model.specs.FitLaws.{decFits, rule-held}
 use Rattle.model.specs.Calls.{workedOut}

@@ -193,35 +193,22 @@ pub fn step_book(
     record_answer(day, first, q, answer, length)
 }
 
-// DROP name, on a day. The record is the caller's to take out, so that the records' places are not copied back; `profile` is workspace,
-// whatever stands there.
+// DROP name, on a day. The record is the caller's to take out, so that the records' places are not copied back.
 pub fn step_drop(
     file: &[u8],
     c: Catalogue,
     day: Day,
     rows: [Booking; MAX_BOOKINGS],
     name: u32,
-    profile: &mut [u64],
     opens: &mut [u64],
     reserves: &mut [u64],
     helds: &mut [u64],
     out: &mut [u8],
 ) -> Removed
-    requires { ⌜ (outputBytes ≤ length (now out)) × (0 < day .rounds) × Ready (now file) c (sessionAt day rows (now opens) (now reserves) (now helds)) × (maxLength ≤ length (now profile)) ⌝ }
+    requires { ⌜ (outputBytes ≤ length (now out)) × (0 < day .rounds) × Ready (now file) c (sessionAt day rows (now opens) (now reserves) (now helds)) ⌝ }
     ensures { λ r. ⌜ AnswersDrop (now (file .entry)) day rows (now (opens .entry)) (now (reserves .entry)) (now (helds .entry)) name (now (out .entry)) r (now (opens .exit)) (now (reserves .exit)) (now (helds .exit)) (now (out .exit)) ⌝ }
 {
-    let dropped = drop_at(
-        file,
-        c,
-        day,
-        rows,
-        PLACES,
-        name,
-        profile,
-        opens,
-        reserves,
-        helds,
-    );
+    let dropped = drop_at(file, c, day, rows, PLACES, name, opens, reserves, helds);
     let answer = dropped.answer;
     let length = write_first(out, name, day.now, answer);
     Removed {

@@ -1,12 +1,13 @@
 -- A drop on a sheet that is laid first: it counts as a drop on the lent one. Assumes nothing.
 use mathlib.Core.Path.{_≡_, refl, sym, ap, _∙_, subst}
 use mathlib.Core.Bool.{Bool, true, false, true≢false}
-use mathlib.Core.List.{List, _++_}
-use Prim.Native.Nat.{ℕ, _≤_, min}
+use mathlib.Core.List.{List}
+use Prim.Native.Nat.{ℕ, _-_, _≤_, _<_, min}
 use native.Mathlib.Decide.{decLe}
 use native.Mathlib.Omega.{arith}
-use lib.ListN.{length, take, drop, replicate}
-use lib.Seq.{take-all, length-take-le}
+use lib.ListN.{length, getD, take}
+use lib.Seq.{take-all, getD-take, length-take-le}
+use borrow.Author.Tests.{lt-ltb, le-ltb}
 use Rattle.laws.specs.Questions.{refusal}
 use Rattle.limits.specs.Bounds.{maxBookings}
 use Rattle.limits.specs.Refusals.{noName}
@@ -14,22 +15,23 @@ use Rattle.films.specs.Questions.{verdict}
 use Rattle.films.specs.Catalogue.{catalogueOf, catalogue-verdict}
 use Rattle.films.specs.declared.types.Catalogue.{Catalogue}
 use Rattle.model.specs.Day.{Setting, State}
-use Rattle.model.specs.Calls.{workedOut, dropCall}
+use Rattle.model.specs.Calls.{noBooking, workedOut, dropCall}
 use Rattle.model.specs.Code.{stateOf}
 use Rattle.model.specs.PlacesLaws.{workedOut-twice}
 use Rattle.model.specs.SoundLaws.{says-sound}
 use Rattle.model.specs.declared.Booking.{Booking}
 use Rattle.model.specs.declared.Day.{Day}
-use Rattle.model.specs.declared.Answer.the-variants.{Refused}
+use Rattle.model.specs.declared.Answer.the-variants.{Refused, Dropped}
 use Rattle.load.specs.Basic.{EachOf}
+use Rattle.load.specs.Streams.{streamOf}
 use Rattle.table.specs.Columns.{tableWords}
 use Rattle.table.specs.Streams.{streams}
-use Rattle.table.specs.Table.{Tabled}
+use Rattle.table.specs.Table.{streamAt, Tabled}
 use Rattle.sheet.specs.Memory.{Agrees}
-use Rattle.sheet.specs.Packed.{heldsOf, lentOf, Settled}
+use Rattle.sheet.specs.Packed.{upper, heldsOf, lentOf, Settled}
 use Rattle.sheet.specs.Sheet.{Lays, Laid}
 use Rattle.sheet.specs.LaidLaws.{length-worked}
-use Rattle.sheet.specs.PackedLaws.{settled-length, unpacked-length, unpacked-laid}
+use Rattle.sheet.specs.PackedLaws.{length-front, settled-length, unpacked-length, unpacked-laid}
 use Rattle.sheet.specs.declared.packed.Packed.{Packed}
 use Rattle.questions.specs.Given.{settingAt}
 use Rattle.questions.specs.Numbers.{standingAsks}
@@ -39,10 +41,13 @@ use Rattle.questions.specs.Listed.{Workspace, Listed, tabled-listed}
 use Rattle.questions.specs.Tied.{AllTied}
 use Rattle.questions.specs.ListSound.{StreamsOf, tabled-streams, all-tied-taken, sound-playable}
 use Rattle.questions.specs.SheetOf.{SheetOf, SheetKept, kept-agrees, laid-sheet, sheet-kept}
-use Rattle.dropping.specs.Contract.{Drops}
-use Rattle.dropping.specs.Removal.{Position}
-use Rattle.dropping.specs.Standing.{Stands}
-use Rattle.dropping.specs.Laws.{number-none, name-refused}
+use Rattle.dropping.specs.Contract.{Drops, DropsAt}
+use Rattle.dropping.specs.Removal.{Position, left}
+use Rattle.dropping.specs.Removal as removal
+use Rattle.dropping.specs.Standing.{Stands, Passes}
+use Rattle.dropping.specs.Taking.{Takes, Taken}
+use Rattle.dropping.specs.KeptLaws.{kept-takes, taken-sheet}
+use Rattle.dropping.specs.Laws.{number-none, name-refused, accepted-drops}
 use Rattle.dropping.specs.declared.DropOutcome.{DropOutcome}
 
 -- the first min n m of m elements are the first n
@@ -159,17 +164,6 @@ pub standing-lent : (f : List ℕ) (day : Day) (rows : List Booking) (places o r
 standing-lent f day rows places o r h lent p g =
     ap (λ (m : ℕ). refusal (standingAsks f day rows places o r m)) (settled-length p (day .rounds) lent h g)
 
--- a drop that is refused 19 and puts the numbers lent back leaves everything as it was lent
-pub name-restored : (f : List ℕ) (day : Day) (rows : List Booking) (places : ℕ) (o r h lent l : List ℕ) (k : Packed)
-    → Settled k (day .rounds) lent h → l ≡ lentOf k h
-    → refusal (standingAsks f day rows places (length o) (length r) (length h)) ≡ 0
-    → (name i : ℕ) (a : DropOutcome) → Position name rows (day .count) i → i ≡ day .count → a .answer ≡ Refused noName → a .day ≡ day → a .rows ≡ rows
-    → Drops (settingAt f day) (stateOf day rows places o r lent) name a o r l
-name-restored f day rows places o r h lent l k g back passed name i a p e x y z =
-    rw (back ∙ sym (g .lent))
-    (name-refused f day rows places o r lent 0
-    (sym (sym (standing-lent f day rows places (length o) (length r) h lent k g) ∙ passed)) name refl a i p e x y z)
-
 -- a refusal that did not write it leaves it
 pub drops-left : (S : Setting) (d : State) (name : ℕ) (a : DropOutcome) (o r h l : List ℕ) → l ≡ h → Drops S d name a o r h → Drops S d name a o r l
 drops-left S d name a o r h l e k = rw e k
@@ -186,3 +180,64 @@ lent-drops f day rows places o₀ r₀ h₀ lent l p g e passed room table opene
     laid-drops f day rows places o₀ r₀ lent (sym (ap (λ (m : ℕ). refusal (standingAsks f day rows places (length o₀) (length r₀) m)) (unpacked-length p (day .rounds) lent l h₀ g e)) ∙ passed) room table opened closed
     false (record { tabled = k .tabled; workspace = k .workspace; events = k .events; held = λ z. absurd (true≢false (sym z)) }) o r h
     (unpacked-laid f (take (day .count) (streams table)) p (day .rounds) o₀ r₀ lent l h₀ o r h g e laid)
+
+-- ---- a drop by the table, of which the questions have passed
+
+module _ (f : List ℕ) (day : Day) (rows : List Booking) (places : ℕ) (table opened closed : List ℕ) (same : Bool) (k : Packed) (o₀ r₀ l : List ℕ)
+    (g : Passes f day rows places table opened closed same k o₀ r₀ l) where
+  pub pass-few : day .count ≤ maxBookings
+  pass-few = standing-held f day rows places (length o₀) (length r₀) (length l) (g .passed) .few
+
+  -- a name that is not there: the numbers lent are put back
+  pub row-refused : (name i : ℕ) → Position name rows (day .count) i → i ≡ day .count → (lent l′ : List ℕ) → Settled k (day .rounds) lent l → l′ ≡ lentOf k l
+      → DropsAt (settingAt f day) (stateOf day rows places o₀ r₀ lent) day rows name (record { answer = Refused noName; count = day .count; place = i }) o₀ r₀ l′
+  row-refused name i p e lent l′ w back =
+      rw (back ∙ sym (w .lent))
+      (name-refused f day rows places o₀ r₀ lent 0
+      (sym (sym (standing-lent f day rows places (length o₀) (length r₀) l lent k w) ∙ g .passed)) name refl _ i p e refl refl
+      (rw (le-ltb i (day .count) (omega arith))))
+
+  -- else the list has the bytes held alone
+  module _ (h₀ : List ℕ) (e : h₀ ≡ heldsOf k l) where
+    unpacked : refusal (standingAsks f day rows places (length o₀) (length r₀) (length h₀)) ≡ 0
+    unpacked =
+        ap (λ (m : ℕ). refusal (standingAsks f day rows places (length o₀) (length r₀) m)) (ap length e ∙ length-front (upper (k .bits)) (k .rounds) l) ∙ g .passed
+
+    unpacked-stands : Stands f day (take (day .count) rows) table opened closed same h₀
+    unpacked-stands = subst (λ (m : List ℕ). Stands f day (take (day .count) rows) table opened closed same m) (sym e) (g .stands)
+
+    -- what laying asks
+    pub pass-lays : (tableWords ≤ length table)
+        × Lays f (streams table) (day .count) (day .rounds) o₀ r₀ h₀
+        × Gathered (streams table) (day .count) opened closed
+        × (day .count ≤ length opened)
+        × (day .count ≤ length closed)
+        × (same ≡ true → Agrees f (take (day .count) (streams table)) h₀ 0 (day .rounds))
+    pass-lays = checked-lays f day rows places o₀ r₀ h₀ unpacked (g .room) table opened closed same unpacked-stands
+
+    -- a row of the sheet that is laid then
+    module _ (o r h : List ℕ) (laid : Laid f (take (day .count) (streams table)) (day .rounds) o₀ r₀ h₀ o r h) (i : ℕ) (inside : i < day .count) where
+      still : refusal (standingAsks f day rows places (length o) (length r) (length h)) ≡ 0
+      still = laid-passed f day rows places o₀ r₀ h₀ unpacked (g .room) table opened closed same unpacked-stands o r h laid
+
+      kept : SheetKept (settingAt f day) (take (day .count) rows) o r h
+      kept = laid-kept f day rows places o₀ r₀ h₀ unpacked (g .room) table opened closed same unpacked-stands o r h laid
+
+      of-row : streamAt table i ≡ streamOf (catalogueOf f) (getD rows i noBooking)
+      of-row =
+          g .stands .tabled .row i (omega (arith, length-take-le (day .count) rows (g .room))) .stream-is
+          ∙ ap (streamOf (catalogueOf f)) (getD-take (day .count) rows i noBooking inside)
+
+      pub row-takes : Takes f (streamAt table i) o r h
+      row-takes = kept-takes f day rows places o r h still kept (g .room) i inside (catalogueOf f) refl (streamAt table i) of-row
+
+      -- taken out of it, the drop is one on the sheet lent
+      pub row-dropped : (name : ℕ) → Position name rows (day .count) i → (lent o′ r′ h′ : List ℕ) → Settled k (day .rounds) lent l
+          → Taken f (streamAt table i) o r h o′ r′ h′
+          → DropsAt (settingAt f day) (stateOf day rows places o₀ r₀ lent) day rows name (record { answer = Dropped; count = day .count - 1; place = i }) o′ r′ h′
+      row-dropped name p lent o′ r′ h′ w t =
+          let closes : left i (day .count) rows ≡ removal.closed i (day .count) rows = rw (lt-ltb i (day .count) inside) in
+          let there : i ≡ day .count → ⊥ = λ z. omega arith in
+          lent-drops f day rows places o₀ r₀ h₀ lent l k w e unpacked (g .room) table opened closed same unpacked-stands o r h laid name i p there _ o′ r′ h′
+          (accepted-drops f day rows places o r h 0 (sym still) name refl i p there (g .room) _ o′ r′ h′ refl refl closes
+          (taken-sheet f day rows places o r h still kept (g .room) i inside (catalogueOf f) refl (streamAt table i) of-row _ o′ r′ h′ closes t))

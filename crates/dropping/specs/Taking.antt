@@ -2,18 +2,13 @@
 use mathlib.Core.Path.{_≡_}
 use mathlib.Core.Bool.{cond}
 use mathlib.Core.List.{List}
-use Prim.Native.Nat.{ℕ, _+_, _-_, _≤_}
+use Prim.Native.Nat.{ℕ, _-_, _≤_}
 use lib.ListN.{length, getD}
-use Rattle.limits.specs.Bounds.{maxPrefetch, maxRounds}
 use Rattle.retrieval.specs.Sheet.{onto}
 use Rattle.model.specs.Calls.{perRound}
 use Rattle.load.specs.Stream.{endOf, openIn, holdsIn}
 use Rattle.load.specs.Basic.{Playable}
 use Rattle.load.specs.declared.stream.Stream.{Stream}
-
--- rounds that a stream is open, at most
-abbrev pub maxLength : ℕ
-maxLength = maxPrefetch + maxRounds
 
 -- hs is taken from the first places of s
 abbrev pub less : List ℕ → List ℕ → List ℕ

@@ -8,18 +8,15 @@ use native.Mathlib.Numerals.{add-one}
 use native.Mathlib.Omega.{arith}
 use lib.Dec.{leb}
 use lib.ListN.{length, getD, set, take, drop, replicate, length-append, length-take, length-drop, length-replicate, getD-replicate}
-use lib.Seq.{ext-getD, getD-drop, getD-take, take-all}
+use lib.Seq.{ext-getD, getD-drop, take-all}
 use borrow.Author.Tests.{leb-true, leb-false, le-leb, lt-leb}
 use borrow.Rule.Slice.PartMut.{midOf, putMid}
 use Rattle.laws.specs.Parts.{tail-part, tail-back}
-use Rattle.retrieval.specs.Stored.{InRange}
 use Rattle.retrieval.specs.SheetLaws.{length-onto, onto-nil}
-use Rattle.retrieval.specs.Written.{written-places, written-length}
 use Rattle.model.specs.PlacesLaws.{length-perRound}
 use Rattle.model.specs.CodeLaws.{perRound-at}
 use Rattle.load.specs.Stream.{lengthOf, openIn, holdsIn, profileOf}
 use Rattle.load.specs.StreamLaws.{open-within}
-use Rattle.load.specs.Basic.{Playable}
 use Rattle.load.specs.declared.stream.Stream.{Stream}
 use Rattle.sheet.specs.Parts.{share, share-before}
 use Rattle.sheet.specs.SheetLaws.{flat-share, held-share}
@@ -126,33 +123,15 @@ module _ (x : Stream) (l : List ℕ) where
       → putMid (x .start) (length l - x .start) l p ≡ lowered (λ t. cond (openIn t x) v 0) l
   flat-back v p e = lowered-back (x .start) (replicate (lengthOf x) v) l p (λ t. cond (openIn t x) v 0) (flat-share x v) e
 
--- the stream's profile, written to a list that is long enough, whatever stood there
-module _ (f : List ℕ) (x : Stream) (before : List ℕ) (good : Playable f x) (room : lengthOf x ≤ length before) where
-  pub profile-asks : InRange f (x .at) (x .rounds) (x .prefetch) (x .reserve) × (lengthOf x ≤ length before)
-  profile-asks = (record { stored = good .stored; prefetch = good .bounded .prefetch; reserve = good .bounded .reserve }, room)
+module _ (f : List ℕ) (x : Stream) (l : List ℕ) where
+  pub held-least : AtLeast (λ t. holdsIn f t x) l → (i : ℕ) → i < lengthOf x
+      → getD (profileOf f x) i 0 ≤ getD (midOf (x .start) (length l - x .start) l) i 0
+  held-least g i h =
+      let z : x .start + i - x .start ≡ i = omega arith in
+      let held : holdsIn f (x .start + i) x ≡ getD (profileOf f x) i 0 =
+      holds-within f x (x .start + i) (omega arith) (omega arith) ∙ ap (λ (k : ℕ). getD (profileOf f x) k 0) z in
+      omega (arith, held, part-place x l i, g (x .start + i))
 
-  module _ (profile : List ℕ) (made : profile ≡ profileOf f x ++ drop (lengthOf x) before) where
-    profile-taken : take (lengthOf x) profile ≡ profileOf f x
-    profile-taken = written-places f (x .at) (x .rounds) (x .prefetch) (x .reserve) before profile made
-
-    pub profile-long : lengthOf x ≤ length profile
-    profile-long =
-        omega (arith, written-length f (x .at) (x .rounds) (x .prefetch) (x .reserve) before profile made room)
-
-    profile-at : (i : ℕ) → i < lengthOf x → getD profile i 0 ≡ holdsIn f (x .start + i) x
-    profile-at i h =
-        let z : x .start + i - x .start ≡ i = omega arith in
-        sym (getD-take (lengthOf x) profile i 0 h)
-        ∙ ap (λ (q : List ℕ). getD q i 0) profile-taken
-        ∙ sym (holds-within f x (x .start + i) (omega arith) (omega arith) ∙ ap (λ (k : ℕ). getD (profileOf f x) k 0) z)
-
-    module _ (l : List ℕ) where
-      pub held-least : AtLeast (λ t. holdsIn f t x) l → (i : ℕ) → i < lengthOf x
-          → getD profile i 0 ≤ getD (midOf (x .start) (length l - x .start) l) i 0
-      held-least g i h = omega (arith, profile-at i h, part-place x l i, g (x .start + i))
-
-      pub held-back : (p : List ℕ) → p ≡ less (midOf (x .start) (length l - x .start) l) (take (lengthOf x) profile)
-          → putMid (x .start) (length l - x .start) l p ≡ lowered (λ t. holdsIn f t x) l
-      held-back p e =
-          lowered-back (x .start) (profileOf f x) l p (λ t. holdsIn f t x) (held-share x f)
-          (e ∙ ap (less (midOf (x .start) (length l - x .start) l)) profile-taken)
+  pub held-back : (p : List ℕ) → p ≡ less (midOf (x .start) (length l - x .start) l) (profileOf f x)
+      → putMid (x .start) (length l - x .start) l p ≡ lowered (λ t. holdsIn f t x) l
+  held-back p e = lowered-back (x .start) (profileOf f x) l p (λ t. holdsIn f t x) (held-share x f) e

@@ -2,15 +2,13 @@
 pub mod removal;
 mod taking;
 
-use crate::removal::close_gap;
+use crate::removal::find_row;
 use crate::removal::position;
 use crate::removal::without;
 use crate::taking::take_stream;
 use films::catalogue::catalogue;
 use films::types::Catalogue;
 use limits::bounds::MAX_BOOKINGS;
-use limits::bounds::MAX_PREFETCH;
-use limits::bounds::MAX_ROUNDS;
 use limits::refusals::NO_NAME;
 use load::stream::stream_of;
 use model::Answer;
@@ -22,10 +20,11 @@ use sheet::packed::Packed;
 use sheet::packed::restore;
 use sheet::packed::settle;
 use table::streams::TABLE_WORDS;
+use table::streams::stream_at;
 use table::tabulate::tabulate;
 ghost use mathlib.Core.Path.{_≡_};
 ghost use mathlib.Core.List.{List};
-ghost use Prim.Native.Nat.{ℕ, _≤_, min};
+ghost use Prim.Native.Nat.{ℕ, min};
 ghost use lib.ListN.{length, take};
 ghost use Rattle.laws.specs.Questions.{refusal};
 ghost use Rattle.films.specs.Catalogue.{catalogueOf};
@@ -33,13 +32,10 @@ ghost use Rattle.model.specs.Code.{stateOf};
 ghost use Rattle.questions.specs.Given.{settingAt};
 ghost use Rattle.questions.specs.Numbers.{standingAsks};
 ghost use Rattle.questions.specs.SheetOf.{SheetKept};
-ghost use Rattle.sheet.specs.Packed.{heldsOf, Packable, Settled};
+ghost use Rattle.sheet.specs.Packed.{Settled};
 ghost use Rattle.dropping.specs.Contract.{Drops, DropsAt};
-ghost use Rattle.dropping.specs.Standing.{Stands};
-ghost use Rattle.dropping.specs.Taking.{maxLength};
-
-// rounds that a stream is open, at most
-const MAX_LENGTH: usize = MAX_PREFETCH as usize + MAX_ROUNDS;
+ghost use Rattle.dropping.specs.Standing.{Passes, SomePass};
+ghost use Rattle.model.specs.declared.Booking.{Booking};
 
 // What a drop answers, how many bookings the day counts after it, and the place of the record that is to be taken out; where it is
 // refused, their number.
@@ -58,7 +54,7 @@ pub struct DropOutcome {
 
 // The drop where the file's questions, 14, 15, 11 and 16 have passed and the sheet is that of the standing bookings already, so that only
 // the dropped one's stream is taken out; c is the file's catalogue. The record is the caller's to take out, so that the records' places
-// are not copied here. `profile` is workspace, whatever stands there.
+// are not copied here.
 pub fn drop_at(
     file: &[u8],
     c: Catalogue,
@@ -66,12 +62,11 @@ pub fn drop_at(
     rows: [Booking; MAX_BOOKINGS],
     places: u64,
     name: u32,
-    profile: &mut [u64],
     opens: &mut [u64],
     reserves: &mut [u64],
     helds: &mut [u64],
 ) -> DroppedAt
-    requires { ⌜ (c ≡ catalogueOf (now file)) × (refusal (standingAsks (now file) day rows places (length (now opens)) (length (now reserves)) (length (now helds))) ≡ 0) × SheetKept (settingAt (now file) day) (take (day .count) rows) (now opens) (now reserves) (now helds) × (maxLength ≤ length (now profile)) ⌝ }
+    requires { ⌜ (c ≡ catalogueOf (now file)) × (refusal (standingAsks (now file) day rows places (length (now opens)) (length (now reserves)) (length (now helds))) ≡ 0) × SheetKept (settingAt (now file) day) (take (day .count) rows) (now opens) (now reserves) (now helds) ⌝ }
     ensures { λ r. ⌜ DropsAt (settingAt (now (file .entry)) day) (stateOf day rows places (now (opens .entry)) (now (reserves .entry)) (now (helds .entry))) day rows name r (now (opens .exit)) (now (reserves .exit)) (now (helds .exit)) ⌝ }
 {
     let count = day.count as usize;
@@ -85,7 +80,7 @@ pub fn drop_at(
     }
     let b = rows[i];
     let x = stream_of(c, b);
-    take_stream(file, x, profile, opens, reserves, helds);
+    take_stream(file, x, opens, reserves, helds);
     DroppedAt {
         answer: Answer::Dropped,
         count: day.count - 1,
@@ -108,19 +103,7 @@ pub fn drop_kept(
     requires { ⌜ (c ≡ catalogueOf (now file)) × (refusal (standingAsks (now file) day rows places (length (now opens)) (length (now reserves)) (length (now helds))) ≡ 0) × SheetKept (settingAt (now file) day) (take (day .count) rows) (now opens) (now reserves) (now helds) ⌝ }
     ensures { λ r. ⌜ Drops (settingAt (now (file .entry)) day) (stateOf day rows places (now (opens .entry)) (now (reserves .entry)) (now (helds .entry))) name r (now (opens .exit)) (now (reserves .exit)) (now (helds .exit)) ⌝ }
 {
-    let mut profile = [0u64; MAX_LENGTH];
-    let dropped = drop_at(
-        file,
-        c,
-        day,
-        rows,
-        places,
-        name,
-        &mut profile,
-        opens,
-        reserves,
-        helds,
-    );
+    let dropped = drop_at(file, c, day, rows, places, name, opens, reserves, helds);
     let answer = dropped.answer;
     let rest = without(rows, day.count as usize, dropped.place);
     let next = Day {
@@ -144,36 +127,34 @@ fn smaller(a: usize, b: usize) -> usize
     if a < b { a } else { b }
 }
 
-// The drop where the file's questions, 14, 15, 11 and 16 have passed, and the table, `opened`, `closed` and `same` are what they were
-// asked with and left: the sheet of the standing bookings is laid down, and the dropped one's stream taken out. The sums of
-// bytes held are packed so with the numbers lent: a refusal leaves nothing changed, so it puts these back.
+// The drop where the file's questions, 14, 15, 11 and 16 have passed of some records, and the table, `opened`, `closed` and `same` are
+// what they were asked with and left: the sheet of the standing bookings is laid down, and the dropped one's stream taken out. The sums
+// of bytes held are packed so with the numbers lent: a refusal leaves nothing changed, so it puts these back. The record is the caller's
+// to take out.
 fn drop_checked(
     file: &[u8],
-    c: Catalogue,
     day: Day,
-    rows: [Booking; MAX_BOOKINGS],
-    places: u64,
-    name: u32,
     table: &[u64],
     opened: &[u64],
     closed: &[u64],
     same: bool,
     packed: Packed,
+    name: u32,
     opens: &mut [u64],
     reserves: &mut [u64],
     helds: &mut [u64],
-) -> DropOutcome
-    requires { ⌜ (c ≡ catalogueOf (now file)) × (refusal (standingAsks (now file) day rows places (length (now opens)) (length (now reserves)) (length (now helds))) ≡ 0) × Stands (now file) day (take (day .count) rows) (now table) (now opened) (now closed) same (heldsOf packed (now helds)) × Packable packed (now helds) ⌝ }
-    ensures { λ r. ⌜ ((lent : List ℕ) → Settled packed (day .rounds) lent (now (helds .entry)) → Drops (settingAt (now (file .entry)) day) (stateOf day rows places (now (opens .entry)) (now (reserves .entry)) lent) name r (now (opens .exit)) (now (reserves .exit)) (now (helds .exit))) ⌝ }
+) -> DroppedAt
+    requires { ⌜ SomePass (now file) day (now table) (now opened) (now closed) same packed (now opens) (now reserves) (now helds) ⌝ }
+    ensures { λ r. ⌜ ((rows : List Booking) (places : ℕ) (lent : List ℕ) → Passes (now (file .entry)) day rows places (now (table .entry)) (now (opened .entry)) (now (closed .entry)) same packed (now (opens .entry)) (now (reserves .entry)) (now (helds .entry)) → Settled packed (day .rounds) lent (now (helds .entry)) → DropsAt (settingAt (now (file .entry)) day) (stateOf day rows places (now (opens .entry)) (now (reserves .entry)) lent) day rows name r (now (opens .exit)) (now (reserves .exit)) (now (helds .exit))) ⌝ }
 {
     let count = day.count as usize;
-    let i = position(rows, count, name);
+    let i = find_row(table, count, name);
     if i == count {
         restore(packed, helds);
-        return DropOutcome {
+        return DroppedAt {
             answer: Answer::Refused(NO_NAME),
-            day,
-            rows,
+            count: day.count,
+            place: i,
         };
     }
     settle(packed, helds);
@@ -189,20 +170,12 @@ fn drop_checked(
         reserves,
         helds,
     );
-    let b = rows[i];
-    let x = stream_of(c, b);
-    let mut profile = [0u64; MAX_LENGTH];
-    take_stream(file, x, &mut profile, opens, reserves, helds);
-    DropOutcome {
+    let x = stream_at(table, i);
+    take_stream(file, x, opens, reserves, helds);
+    DroppedAt {
         answer: Answer::Dropped,
-        day: Day {
-            rounds: day.rounds,
-            disk: day.disk,
-            memory: day.memory,
-            now: day.now,
-            count: day.count - 1,
-        },
-        rows: close_gap(rows, count, i),
+        count: day.count - 1,
+        place: i,
     }
 }
 
@@ -253,20 +226,29 @@ pub fn drop_booking(
     }
     let same = examined.same;
     let packed = examined.packed;
-    drop_checked(
+    let dropped = drop_checked(
         file,
-        c,
         day,
-        rows,
-        places,
-        name,
         &table,
         &opened,
         &closed,
         same,
         packed,
+        name,
         opens,
         reserves,
         helds,
-    )
+    );
+    let answer = dropped.answer;
+    DropOutcome {
+        answer,
+        day: Day {
+            rounds: day.rounds,
+            disk: day.disk,
+            memory: day.memory,
+            now: day.now,
+            count: dropped.count,
+        },
+        rows: without(rows, day.count as usize, dropped.place),
+    }
 }

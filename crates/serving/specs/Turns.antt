@@ -16,7 +16,7 @@ use Rattle.text.specs.Digits.{outputBytes}
 use Rattle.console.specs.Session.{SessionState, stateAfter, textOf}
 use Rattle.console.specs.Contract.{After, stepOf}
 use Rattle.input.specs.Serving.{lineBytes, Ran, printedFirst, runOf, endText}
-use Rattle.input.specs.Contract.{segment, takenRun, Takes}
+use Rattle.input.specs.Contract.{segment, Takes}
 use Rattle.input.specs.LineLaws.{take-segment}
 use Rattle.input.specs.RunLaws.{run-append}
 use Rattle.input.specs.declared.Taken.{Taken}

@@ -106,7 +106,6 @@ pub fn serve_bytes(
                     day,
                     rows,
                     name,
-                    &mut ahead,
                     opens,
                     reserves,
                     helds,

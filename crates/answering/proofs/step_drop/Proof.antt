@@ -14,11 +14,11 @@ use Rattle.answering.proofs.step_drop.Tie as tie
 
 drop-at-requires : tie.Need-drop-at-requires
 drop-at-requires c κs =
-    let start = c .before .before .before .before .before .before .before .before .before .before in
+    let start = c .before .before .before .before .before .before .before .before in
     let a = start .args in
     let s = sessionAt (a .day) (a .rows) (a .opens .now) (a .reserves .now) (a .helds .now) in
     let ready = start .pre .2 in
-    (ready .catalogue, ready-asks (a .file .now) (a .c) s ready (start .pre .1), kept-sheet (a .file .now) s (ready .kept) (start .pre .1), start .pre .3)
+    (ready .catalogue, ready-asks (a .file .now) (a .c) s ready (start .pre .1), kept-sheet (a .file .now) s (ready .kept) (start .pre .1))
 
 write-first-requires : tie.Need-write-first-requires
 write-first-requires c κs = search needs
@@ -35,14 +35,11 @@ same-length-3 c = search needs
 same-length-4 : tie.Need-same-length-4
 same-length-4 c = search needs
 
-same-length-5 : tie.Need-same-length-5
-same-length-5 c = search needs
-
 returns : tie.Need-returns
 returns c =
     let wrote = c .before .before .write-first in
-    let dropped = c .before .before .before .before .before .before .before .before .before .before .before .before .drop-at in
-    let start = c .before .before .before .before .before .before .before .before .before .before .before .before .before .before .before .before .before .before .before .before .before .before .before in
+    let dropped = c .before .before .before .before .before .before .before .before .before .before .drop-at in
+    let start = c .before .before .before .before .before .before .before .before .before .before .before .before .before .before .before .before .before .before .before in
     let a = start .args in
     let r = dropped .result in
     let asks = ready-asks (a .file .now) (a .c) (sessionAt (a .day) (a .rows) (a .opens .now) (a .reserves .now) (a .helds .now)) (start .pre .2) (start .pre .1) in
@@ -64,5 +61,4 @@ step-drop-spec =
     same-length-2
     same-length-3
     same-length-4
-    same-length-5
     returns)

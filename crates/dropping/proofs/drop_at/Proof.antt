@@ -11,35 +11,34 @@ use borrow.Author.Needs.{needs}
 use Rattle.dropping.proofs.drop_at.Statement.{statement}
 use Rattle.dropping.proofs.drop_at.Tie as tie
 
--- where the name was looked for
-abbrev start : tie.After-position → tie.Start
-start at = at .before .before .before .before .before .before
-
 position-requires : tie.Need-position-requires
 position-requires c κs =
-    let start = c .before .before .before .before .before in
+    let start = c .before .before .before .before in
     let a = start .args in
     stands (a .file .now) (a .day) (a .t4) (a .places) (a .opens .now) (a .reserves .now) (a .helds .now) 0 (sym (start .pre .1)) refl .few
 
 returns : tie.Need-returns
 returns c =
     let at = c .before in
-    let a = start at .args in
-    name-refused (a .file .now) (a .day) (a .t4) (a .places) (a .opens .now) (a .reserves .now) (a .helds .now) 0 (sym (start at .pre .1)) (a .name) refl _
+    let start = c .before .before .before .before .before .before in
+    let a = start .args in
+    name-refused (a .file .now) (a .day) (a .t4) (a .places) (a .opens .now) (a .reserves .now) (a .helds .now) 0 (sym (start .pre .1)) (a .name) refl _
     (at .position .result) (at .position .ensures) (c .if1 .taken) refl refl (rw (le-ltb (at .position .result) (a .day .count) (omega arith)))
 
 mul-b : tie.Need-mul-b
 mul-b c =
     let at = c .before in
-    let a = start at .args in
-    let held = stands (a .file .now) (a .day) (a .t4) (a .places) (a .opens .now) (a .reserves .now) (a .helds .now) 0 (sym (start at .pre .1)) refl in
+    let start = c .before .before .before .before .before .before in
+    let a = start .args in
+    let held = stands (a .file .now) (a .day) (a .t4) (a .places) (a .opens .now) (a .reserves .now) (a .helds .now) 0 (sym (start .pre .1)) refl in
     omega (arith, at .position .ensures .within, c .if1 .left, held .few)
 
 array-copy-out-b : tie.Need-array-copy-out-b
 array-copy-out-b c =
     let at = c .before in
-    let a = start at .args in
-    let held = stands (a .file .now) (a .day) (a .t4) (a .places) (a .opens .now) (a .reserves .now) (a .helds .now) 0 (sym (start at .pre .1)) refl in
+    let start = c .before .before .before .before .before .before in
+    let a = start .args in
+    let held = stands (a .file .now) (a .day) (a .t4) (a .places) (a .opens .now) (a .reserves .now) (a .helds .now) 0 (sym (start .pre .1)) refl in
     omega (arith, at .position .ensures .within, c .if1 .left, held .few)
 
 stream-of-requires : tie.Need-stream-of-requires
@@ -47,19 +46,18 @@ stream-of-requires c κs = search needs
 
 take-stream-requires : tie.Need-take-stream-requires
 take-stream-requires c κs =
-    let made = c .before .before .before .before in
-    let found = made .before .before in
-    let at = found .before in
-    let a = start at .args in
-    let held = stands (a .file .now) (a .day) (a .t4) (a .places) (a .opens .now) (a .reserves .now) (a .helds .now) 0 (sym (start at .pre .1)) refl in (
-      kept-takes (a .file .now) (a .day) (a .t4) (a .places) (a .opens .now) (a .reserves .now) (a .helds .now) (start at .pre .1) (start at .pre .2)
-          (omega (arith, held .few, start at)) (at .position .result) (omega (arith, at .position .ensures .within, found .if1 .left)) (a .c) (start at .pre .0)
-          (made .stream-of .result) (made .stream-of .ensures),
-      start at .pre .3,
-    )
+    let made = c .before .before .before in
+    let found = c .before .before .before .before .before in
+    let at = c .before .before .before .before .before .before in
+    let start = c .before .before .before .before .before .before .before .before .before .before .before in
+    let a = start .args in
+    let held = stands (a .file .now) (a .day) (a .t4) (a .places) (a .opens .now) (a .reserves .now) (a .helds .now) 0 (sym (start .pre .1)) refl in
+    kept-takes (a .file .now) (a .day) (a .t4) (a .places) (a .opens .now) (a .reserves .now) (a .helds .now) (start .pre .1) (start .pre .2)
+    (omega (arith, held .few, start)) (at .position .result) (omega (arith, at .position .ensures .within, found .if1 .left)) (a .c) (start .pre .0)
+    (made .stream-of .result) (made .stream-of .ensures)
 
-sub-t33 : tie.Need-sub-t33
-sub-t33 c = search needs
+sub-t30 : tie.Need-sub-t30
+sub-t30 c = search needs
 
 same-length : tie.Need-same-length
 same-length c = search needs
@@ -70,24 +68,22 @@ same-length-2 c = search needs
 same-length-3 : tie.Need-same-length-3
 same-length-3 c = search needs
 
-same-length-4 : tie.Need-same-length-4
-same-length-4 c = search needs
-
 returns-2 : tie.Need-returns-2
 returns-2 c =
-    let taken = c .before .before .before .before .before .before .before .before .before in
-    let made = c .before .before .before .before .before .before .before .before .before .before .before .before .before .before in
-    let found = c .before .before .before .before .before .before .before .before .before .before .before .before .before .before .before .before in
-    let at = found .before in
-    let a = start at .args in
-    let held = stands (a .file .now) (a .day) (a .t4) (a .places) (a .opens .now) (a .reserves .now) (a .helds .now) 0 (sym (start at .pre .1)) refl in
+    let taken = c .before .before .before .before .before .before .before in
+    let made = c .before .before .before .before .before .before .before .before .before .before .before in
+    let found = c .before .before .before .before .before .before .before .before .before .before .before .before .before in
+    let at = c .before .before .before .before .before .before .before .before .before .before .before .before .before .before in
+    let start = c .before .before .before .before .before .before .before .before .before .before .before .before .before .before .before .before .before .before .before in
+    let a = start .args in
+    let held = stands (a .file .now) (a .day) (a .t4) (a .places) (a .opens .now) (a .reserves .now) (a .helds .now) 0 (sym (start .pre .1)) refl in
     let inside : at .position .result < a .day .count = omega (arith, at .position .ensures .within, found .if1 .left) in
     let closes : left (at .position .result) (a .day .count) (a .t4) ≡ closed (at .position .result) (a .day .count) (a .t4) =
     rw (lt-ltb (at .position .result) (a .day .count) inside) in
-    accepted-drops (a .file .now) (a .day) (a .t4) (a .places) (a .opens .now) (a .reserves .now) (a .helds .now) 0 (sym (start at .pre .1)) (a .name) refl
-    (at .position .result) (at .position .ensures) (found .if1 .left) (omega (arith, held .few, start at)) _ _ _ _ refl refl closes
-    (taken-sheet (a .file .now) (a .day) (a .t4) (a .places) (a .opens .now) (a .reserves .now) (a .helds .now) (start at .pre .1) (start at .pre .2)
-    (omega (arith, held .few, start at)) (at .position .result) inside (a .c) (start at .pre .0)
+    accepted-drops (a .file .now) (a .day) (a .t4) (a .places) (a .opens .now) (a .reserves .now) (a .helds .now) 0 (sym (start .pre .1)) (a .name) refl
+    (at .position .result) (at .position .ensures) (found .if1 .left) (omega (arith, held .few, start)) _ _ _ _ refl refl closes
+    (taken-sheet (a .file .now) (a .day) (a .t4) (a .places) (a .opens .now) (a .reserves .now) (a .helds .now) (start .pre .1) (start .pre .2)
+    (omega (arith, held .few, start)) (at .position .result) inside (a .c) (start .pre .0)
     (made .stream-of .result) (made .stream-of .ensures) _ _ _ _ closes (taken .take-stream .ensures))
 
 pub drop-at-spec : {M : Type 1} → statement M
@@ -100,9 +96,8 @@ drop-at-spec =
     array-copy-out-b
     stream-of-requires
     take-stream-requires
-    sub-t33
+    sub-t30
     same-length
     same-length-2
     same-length-3
-    same-length-4
     returns-2)

@@ -1,14 +1,43 @@
 -- `dropping::drop_booking` meets its contract: the table has the day's bookings, of which the questions are asked; a number before 19 stands
 -- and leaves everything, else the rest decides. Assumes nothing.
 use mathlib.Core.Path.{refl, sym, _∙_}
+use lib.ListN.{length}
 use native.Mathlib.Omega.{arith}
 use borrow.Author.Needs.{needs}
 use Rattle.films.specs.Ordered.{catalogue-ordered}
 use Rattle.sheet.specs.PackedLaws.{settled-same}
+use Rattle.questions.specs.Standing.{standing-held}
+use Rattle.dropping.specs.Standing.{Passes}
 use Rattle.dropping.specs.Laws.{standing-refused}
 use Rattle.dropping.specs.CheckedLaws.{day-tabled, examine-asks, standing-lent, drops-left}
 use Rattle.dropping.proofs.drop_booking.Statement.{statement}
 use Rattle.dropping.proofs.drop_booking.Tie as tie
+
+-- the questions have passed of the records, and left what the drop asks
+passes : (c : tie.Else1) → let a = c .before .before .before .before .before .before .before .before .before .before .before .before .before .before .before .before .before .before .before .args in let asked = c .before .before .before .before .before .examine in
+    Passes (a .file .now) (a .day) (a .rows) (a .places) (c .before .before .before .before .before .before .before .before .before .before .before .tabulate .last .1 .1 .1 .0) (asked .last .1 .1 .1 .1 .1 .1 .1 .1 .0) (asked .last .1 .1 .1 .1 .1 .1 .1 .1 .1 .0)
+    (asked .result .same) (asked .result .packed) (a .opens .now) (a .reserves .now) (asked .last .1 .1 .1 .1 .1 .1 .1 .1 .1 .1 .0)
+passes c =
+    let a = c .before .before .before .before .before .before .before .before .before .before .before .before .before .before .before .before .before .before .before .args in
+    let start = c .before .before .before .before .before .before .before .before .before .before .before .before .before .before .before .before .before .before .before in
+    let told = c .before .before .before .before .before .examine .ensures in
+    let table = day-tabled (a .file .now) (c .before .before .before .before .before .before .before .before .before .before .before .before .before .before .catalogue .result) (a .day) (a .rows) (c .before .before .before .before .before .before .before .before .before .before .before .before .before .before .catalogue .ensures) (omega (arith, start)) (c .before .before .before .before .before .before .before .before .before .before .before .before .before .smaller .result)
+    (c .before .before .before .before .before .before .before .before .before .before .before .before .before .smaller .ensures) (c .before .before .before .before .before .before .before .before .before .before .before .tabulate .last .1 .1 .1 .0) (c .before .before .before .before .before .before .before .before .before .before .before .tabulate .ensures .0) in
+    let passed = standing-lent (a .file .now) (a .day) (a .rows) (a .places) (length (a .opens .now)) (length (a .reserves .now)) _ (a .helds .now) (c .before .before .before .before .before .examine .result .packed) (told .1 .1 .0)
+    ∙ sym (told .0 .number (a .rows) (omega (arith, start)) table)
+    ∙ c .if1 .left in
+    record {
+      room = omega (arith, start, standing-held (a .file .now) (a .day) (a .rows) (a .places) _ _ _ passed .few);
+      passed = passed;
+      stands =
+          record {
+            tabled = table;
+            workspace = told .1 .0;
+            events = told .0 .events (c .if1 .left);
+            held = told .0 .held (a .rows) (omega (arith, start)) table;
+          };
+      packable = told .1 .1 .0 .packable;
+    }
 
 catalogue-requires : tie.Need-catalogue-requires
 catalogue-requires c κs = search needs
@@ -22,8 +51,8 @@ slice-aggregate-tabulate c = search needs
 tabulate-requires : tie.Need-tabulate-requires
 tabulate-requires c κs =
     let listed = c .before in
-    let made = listed .before in
-    let start = made .before .before .before .before .before in
+    let made = c .before .before in
+    let start = c .before .before .before .before .before .before .before in
     (omega (arith, listed .smaller .ensures), rw (made .catalogue .ensures) (catalogue-ordered (start .args .file .now)), search needs)
 
 slice-aggregate-examine : tie.Need-slice-aggregate-examine
@@ -38,9 +67,9 @@ slice-aggregate-examine-3 c = search needs
 examine-requires : tie.Need-examine-requires
 examine-requires c κs =
     let tabled = c .before .before .before .before .before in
-    let listed = tabled .before .before in
-    let made = listed .before in
-    let start = made .before .before .before .before .before in
+    let listed = c .before .before .before .before .before .before .before in
+    let made = c .before .before .before .before .before .before .before .before in
+    let start = c .before .before .before .before .before .before .before .before .before .before .before .before .before in
     let a = start .args in
     examine-asks (a .file .now) (made .catalogue .result) (a .day) (a .rows) (made .catalogue .ensures) (omega (arith, start)) (listed .smaller .result)
     (listed .smaller .ensures) (tabled .tabulate .last .1 .1 .1 .0) (tabled .tabulate .ensures .0) _ _ (record { words = search needs; opens = search needs; closes = search needs })
@@ -73,28 +102,13 @@ slice-aggregate-drop-checked-3 c = search needs
 
 drop-checked-requires : tie.Need-drop-checked-requires
 drop-checked-requires c κs =
-    let tabled = c .before .before .before .before .before .before .before .before .before .before .before .before .before .before .before .before .before .before in
-    let listed = c .before .before .before .before .before .before .before .before .before .before .before .before .before .before .before .before .before .before .before .before in
-    let made = c .before .before .before .before .before .before .before .before .before .before .before .before .before .before .before .before .before .before .before .before .before in
-    let start = c .before .before .before .before .before .before .before .before .before .before .before .before .before .before .before .before .before .before .before .before .before .before .before .before .before .before in
-    let a = start .args in
-    let passed = c .before .before .before .before .before .before .before .if1 .left in
-    let asked = c .before .before .before .before .before .before .before .before .before .before .before .before .examine in
-    let told = asked .ensures in
-    let table = day-tabled (a .file .now) (made .catalogue .result) (a .day) (a .rows) (made .catalogue .ensures) (omega (arith, start)) (listed .smaller .result)
-    (listed .smaller .ensures) (tabled .tabulate .last .1 .1 .1 .0) (tabled .tabulate .ensures .0) in (
-      made .catalogue .ensures,
-      standing-lent (a .file .now) (a .day) (a .rows) (a .places) _ _ (asked .last .1 .1 .1 .1 .1 .1 .1 .1 .1 .1 .0) (a .helds .now) (asked .result .packed) (told .1 .1 .0)
-          ∙ sym (told .0 .number (a .rows) (omega (arith, start)) table)
-          ∙ passed,
-      record {
-        tabled = table;
-        workspace = told .1 .0;
-        events = told .0 .events passed;
-        held = told .0 .held (a .rows) (omega (arith, start)) table;
-      },
-      told .1 .1 .0 .packable,
-    )
+    let a = c .before .before .before .before .before .before .before .before .before .before .before .before .before .before .before .before .before .before .before .before .before .before .before .before .before .before .args in
+    record { rows = a .rows; places = a .places; pass = passes (c .before .before .before .before .before .before .before) }
+
+without-requires : tie.Need-without-requires
+without-requires c κs =
+    let g = passes (c .before .before .before .before .before .before .before .before .before .before .before .before .before .before) in
+    standing-held (c .before .before .before .before .before .before .before .before .before .before .before .before .before .before .before .before .before .before .before .before .before .before .before .before .before .before .before .before .before .before .before .before .before .args .file .now) (c .before .before .before .before .before .before .before .before .before .before .before .before .before .before .before .before .before .before .before .before .before .before .before .before .before .before .before .before .before .before .before .before .before .args .day) (c .before .before .before .before .before .before .before .before .before .before .before .before .before .before .before .before .before .before .before .before .before .before .before .before .before .before .before .before .before .before .before .before .before .args .rows) (c .before .before .before .before .before .before .before .before .before .before .before .before .before .before .before .before .before .before .before .before .before .before .before .before .before .before .before .before .before .before .before .before .before .args .places) _ _ _ (g .passed) .few
 
 same-length-2 : tie.Need-same-length-2
 same-length-2 c = search needs
@@ -106,7 +120,10 @@ same-length-4 : tie.Need-same-length-4
 same-length-4 c = search needs
 
 returns-2 : tie.Need-returns-2
-returns-2 c = c .before .before .before .before .before .before .drop-checked .ensures (c .before .before .before .before .before .before .before .before .before .before .before .before .before .before .before .before .before .before .before .before .before .before .before .before .before .before .before .before .before .before .before .before .before .args .helds .now) (c .before .before .before .before .before .before .before .before .before .before .before .before .before .before .before .before .before .before .before .examine .ensures .1 .1 .0)
+returns-2 c =
+    let a = c .before .before .before .before .before .before .before .before .before .before .before .before .before .before .before .before .before .before .before .before .before .before .before .before .before .before .before .before .before .before .before .before .before .before .args in
+    let g = c .before .before .before .before .before .before .before .drop-checked .ensures (a .rows) (a .places) (a .helds .now) (passes (c .before .before .before .before .before .before .before .before .before .before .before .before .before .before .before)) (c .before .before .before .before .before .before .before .before .before .before .before .before .before .before .before .before .before .before .before .before .examine .ensures .1 .1 .0) in
+    record { answer = g .answer; day = g .day; rows = c .without .ensures ∙ g .rows; opens = g .opens; reserves = g .reserves; helds = g .helds }
 
 pub drop-booking-spec : {M : Type 1} → statement M
 drop-booking-spec =
@@ -126,6 +143,7 @@ drop-booking-spec =
     slice-aggregate-drop-checked-2
     slice-aggregate-drop-checked-3
     drop-checked-requires
+    without-requires
     same-length-2
     same-length-3
     same-length-4

@@ -249,92 +249,89 @@ loop-again-3 c =
 enum-known-order-2 : tie.Need-enum-known-order-2 Inv-loop μ-loop
 enum-known-order-2 c = search needs
 
-slice-aggregate-step-drop : tie.Need-slice-aggregate-step-drop Inv-loop μ-loop
-slice-aggregate-step-drop c = sym (c .before .before .before .before .before .before .before .before .before .before .before .before .before .before .loop .inv .7)
-
 sub-step-drop : tie.Need-sub-step-drop Inv-loop μ-loop
-sub-step-drop c = omega (arith, c .before .before .before .before .before .before .before .before .before .before .before .before .before .before .before .before .before .loop .inv .5 .room)
+sub-step-drop c = omega (arith, c .before .before .before .before .before .before .before .before .before .before .before .before .before .before .before .before .loop .inv .5 .room)
 
 part-step-drop-start : tie.Need-part-step-drop-start Inv-loop μ-loop
-part-step-drop-start c = omega (arith, c .before .before .before .before .before .before .before .before .before .before .before .before .before .before .before .before .before .loop .inv .5 .room)
+part-step-drop-start c = omega (arith, c .before .before .before .before .before .before .before .before .before .before .before .before .before .before .before .before .loop .inv .5 .room)
 
 part-step-drop-end : tie.Need-part-step-drop-end Inv-loop μ-loop
-part-step-drop-end c = omega (arith, c .before .before .before .before .before .before .before .before .before .before .before .before .before .before .before .before .before .loop .inv .5 .room)
+part-step-drop-end c = omega (arith, c .before .before .before .before .before .before .before .before .before .before .before .before .before .before .before .before .loop .inv .5 .room)
 
 step-drop-requires : tie.Need-step-drop-requires Inv-loop μ-loop
 step-drop-requires c κs =
-    let l = c .before .before .before .before .before .before .before .before .before .before .before .before .before .before .before .before .before .before .loop in
-    let at = c .before .before .before .before .before .before .order2 .given in
-    let wanted = c .before .before .before .before .before .before .before .before .order-of .ensures .1 (at .0 .0) (at .1) in
-    let left = leb-true outputBytes (length (l .out) - l .used) (c .before .before .before .before .before .before .before .before .before .before .before .before .before .before .before .before .if1 .taken) in
-    (omega (arith, left, tail-length (l .used) (l .out)), wanted .1, l .inv .5 .ready, omega (arith, l .inv .7))
+    let l = c .before .before .before .before .before .before .before .before .before .before .before .before .before .before .before .before .before .loop in
+    let at = c .before .before .before .before .before .order2 .given in
+    let wanted = c .before .before .before .before .before .before .before .order-of .ensures .1 (at .0 .0) (at .1) in
+    let left = leb-true outputBytes (length (l .out) - l .used) (c .before .before .before .before .before .before .before .before .before .before .before .before .before .before .before .if1 .taken) in
+    (omega (arith, left, tail-length (l .used) (l .out)), wanted .1, l .inv .5 .ready)
 
 without-requires : tie.Need-without-requires Inv-loop μ-loop
-without-requires c κs = c .before .before .before .before .before .before .before .before .before .step-drop .ensures .few
+without-requires c κs = c .before .before .before .before .before .before .before .before .step-drop .ensures .few
 
 add-used-3 : tie.Need-add-used-3 Inv-loop μ-loop
 add-used-3 c =
-    let l = c .before .before .before .before .before .before .before .before .before .before .before .before .before .before .before .before .before .before .before .before .before .before .before .before .before .before .before .before .before .before .loop in
+    let l = c .before .before .before .before .before .before .before .before .before .before .before .before .before .before .before .before .before .before .before .before .before .before .before .before .before .before .before .before .loop in
     let g = l .inv .5 in
-    let a = c .before .before .before .before .before .before .before .before .before .before .before .before .before .before .before .before .before .before .before .before .before .before .before .before .before .before .before .before .before .before .before .before .before .before .before .before .before .before .before .before .args in
-    let nl = c .before .before .before .before .before .before .before .before .before .before .before .before .before .before .before .before .before .before .before .before .before .before .before .before .before .before .next-line in
-    let at = c .before .before .before .before .before .before .before .before .before .before .before .before .before .before .before .before .before .before .order2 .given in
-    let wanted = c .before .before .before .before .before .before .before .before .before .before .before .before .before .before .before .before .before .before .before .before .order-of .ensures .1 (at .0 .0) (at .1) in
-    let dropped = c .before .before .before .before .before .before .before .before .before .before .before .step-drop in
+    let a = c .before .before .before .before .before .before .before .before .before .before .before .before .before .before .before .before .before .before .before .before .before .before .before .before .before .before .before .before .before .before .before .before .before .before .before .before .before .before .args in
+    let nl = c .before .before .before .before .before .before .before .before .before .before .before .before .before .before .before .before .before .before .before .before .before .before .before .before .next-line in
+    let at = c .before .before .before .before .before .before .before .before .before .before .before .before .before .before .before .before .order2 .given in
+    let wanted = c .before .before .before .before .before .before .before .before .before .before .before .before .before .before .before .before .before .before .order-of .ensures .1 (at .0 .0) (at .1) in
+    let dropped = c .before .before .before .before .before .before .before .before .before .before .step-drop in
     let rest = c .before .without in
     let rows = rest .result in
-    let left = leb-true outputBytes (length (l .out) - l .used) (c .before .before .before .before .before .before .before .before .before .before .before .before .before .before .before .before .before .before .before .before .before .before .before .before .before .before .before .before .if1 .taken) in
+    let left = leb-true outputBytes (length (l .out) - l .used) (c .before .before .before .before .before .before .before .before .before .before .before .before .before .before .before .before .before .before .before .before .before .before .before .before .before .before .if1 .taken) in
     let part = midOf (l .used) (length (l .out) - l .used) (l .out) in
     let enough : outputBytes ≤ length part = omega (arith, left, tail-length (l .used) (l .out)) in
-    let answer = dropped .last .1 .1 .1 .1 .1 .1 .1 .1 .1 .0 in
+    let answer = dropped .last .1 .1 .1 .1 .1 .1 .1 .1 .0 in
     let took =
-    ap (λ (r : List Booking). record { state = sessionAt (counting (l .day) (dropped .result .count)) r (dropped .last .1 .1 .1 .1 .1 .1 .0) (dropped .last .1 .1 .1 .1 .1 .1 .1 .0) (dropped .last .1 .1 .1 .1 .1 .1 .1 .1 .0); buffer = answer; count = dropped .result .length }) (rest .ensures)
+    ap (λ (r : List Booking). record { state = sessionAt (counting (l .day) (dropped .result .count)) r (dropped .last .1 .1 .1 .1 .1 .0) (dropped .last .1 .1 .1 .1 .1 .1 .0) (dropped .last .1 .1 .1 .1 .1 .1 .1 .0); buffer = answer; count = dropped .result .length }) (rest .ensures)
     ∙ dropped .ensures .step
     ∙ ap (λ (k : Command). stepOf (a .file .now) (sessionAt (l .day) (l .rows) (l .opens) (l .reserves) (l .helds)) k part) (sym (wanted .0)) in
     let few = turn-count (a .file .now) (a .c) (sessionAt (a .s .day) (a .s .rows) (a .opens .now) (a .reserves .now) (a .helds .now)) (take (a .held) (a .line .now)) (a .bytes .now) (l .line) (l .out) (l .opens) (l .reserves) (l .helds) (l .day) (l .rows) (l .kept) (l .at) (l .used) g (nl .result) (nl .last .0) (nl .ensures)
     (l .out) refl part enough (counting (l .day) (dropped .result .count)) rows
-    (dropped .last .1 .1 .1 .1 .1 .1 .0) (dropped .last .1 .1 .1 .1 .1 .1 .1 .0) (dropped .last .1 .1 .1 .1 .1 .1 .1 .1 .0) answer (dropped .result .length) took in
-    record { fits = omega (arith, few, left, g .room, l .inv .4, c .before .before .before .before .before .before .before .before .before .before .before .before .before .before .before .before .before .before .before .before .before .before .before .before .before .before .before .before .before .before .before .before .before .before .before .before .before .before .before .before .good) }
+    (dropped .last .1 .1 .1 .1 .1 .0) (dropped .last .1 .1 .1 .1 .1 .1 .0) (dropped .last .1 .1 .1 .1 .1 .1 .1 .0) answer (dropped .result .length) took in
+    record { fits = omega (arith, few, left, g .room, l .inv .4, c .before .before .before .before .before .before .before .before .before .before .before .before .before .before .before .before .before .before .before .before .before .before .before .before .before .before .before .before .before .before .before .before .before .before .before .before .before .before .good) }
 
 loop-less-4 : tie.Need-loop-less-4 Inv-loop μ-loop
-loop-less-4 c = let took = c .before .before .before .before .before .before .before .before .before .before .before .before .before .before .before .before .before .before .before .before .before .before .before .before .before .before .next-line .ensures in omega (arith, took .moved, took .within)
+loop-less-4 c = let took = c .before .before .before .before .before .before .before .before .before .before .before .before .before .before .before .before .before .before .before .before .before .before .before .before .next-line .ensures in omega (arith, took .moved, took .within)
 
 loop-again-4 : tie.Need-loop-again-4 Inv-loop μ-loop
 loop-again-4 c =
-    let l = c .before .before .before .before .before .before .before .before .before .before .before .before .before .before .before .before .before .before .before .before .before .before .before .before .before .before .before .before .before .before .loop in
+    let l = c .before .before .before .before .before .before .before .before .before .before .before .before .before .before .before .before .before .before .before .before .before .before .before .before .before .before .before .before .loop in
     let g = l .inv .5 in
-    let a = c .before .before .before .before .before .before .before .before .before .before .before .before .before .before .before .before .before .before .before .before .before .before .before .before .before .before .before .before .before .before .before .before .before .before .before .before .before .before .before .before .args in
-    let nl = c .before .before .before .before .before .before .before .before .before .before .before .before .before .before .before .before .before .before .before .before .before .before .before .before .before .before .next-line in
-    let at = c .before .before .before .before .before .before .before .before .before .before .before .before .before .before .before .before .before .before .order2 .given in
-    let wanted = c .before .before .before .before .before .before .before .before .before .before .before .before .before .before .before .before .before .before .before .before .order-of .ensures .1 (at .0 .0) (at .1) in
-    let dropped = c .before .before .before .before .before .before .before .before .before .before .before .step-drop in
+    let a = c .before .before .before .before .before .before .before .before .before .before .before .before .before .before .before .before .before .before .before .before .before .before .before .before .before .before .before .before .before .before .before .before .before .before .before .before .before .before .args in
+    let nl = c .before .before .before .before .before .before .before .before .before .before .before .before .before .before .before .before .before .before .before .before .before .before .before .before .next-line in
+    let at = c .before .before .before .before .before .before .before .before .before .before .before .before .before .before .before .before .order2 .given in
+    let wanted = c .before .before .before .before .before .before .before .before .before .before .before .before .before .before .before .before .before .before .order-of .ensures .1 (at .0 .0) (at .1) in
+    let dropped = c .before .before .before .before .before .before .before .before .before .before .step-drop in
     let rest = c .before .without in
     let rows = rest .result in
-    let left = leb-true outputBytes (length (l .out) - l .used) (c .before .before .before .before .before .before .before .before .before .before .before .before .before .before .before .before .before .before .before .before .before .before .before .before .before .before .before .before .if1 .taken) in
+    let left = leb-true outputBytes (length (l .out) - l .used) (c .before .before .before .before .before .before .before .before .before .before .before .before .before .before .before .before .before .before .before .before .before .before .before .before .before .before .if1 .taken) in
     let part = midOf (l .used) (length (l .out) - l .used) (l .out) in
     let enough : outputBytes ≤ length part = omega (arith, left, tail-length (l .used) (l .out)) in
-    let answer = dropped .last .1 .1 .1 .1 .1 .1 .1 .1 .1 .0 in
+    let answer = dropped .last .1 .1 .1 .1 .1 .1 .1 .1 .0 in
     let took =
-    ap (λ (r : List Booking). record { state = sessionAt (counting (l .day) (dropped .result .count)) r (dropped .last .1 .1 .1 .1 .1 .1 .0) (dropped .last .1 .1 .1 .1 .1 .1 .1 .0) (dropped .last .1 .1 .1 .1 .1 .1 .1 .1 .0); buffer = answer; count = dropped .result .length }) (rest .ensures)
+    ap (λ (r : List Booking). record { state = sessionAt (counting (l .day) (dropped .result .count)) r (dropped .last .1 .1 .1 .1 .1 .0) (dropped .last .1 .1 .1 .1 .1 .1 .0) (dropped .last .1 .1 .1 .1 .1 .1 .1 .0); buffer = answer; count = dropped .result .length }) (rest .ensures)
     ∙ dropped .ensures .step
     ∙ ap (λ (k : Command). stepOf (a .file .now) (sessionAt (l .day) (l .rows) (l .opens) (l .reserves) (l .helds)) k part) (sym (wanted .0)) in
     let few = turn-count (a .file .now) (a .c) (sessionAt (a .s .day) (a .s .rows) (a .opens .now) (a .reserves .now) (a .helds .now)) (take (a .held) (a .line .now)) (a .bytes .now) (l .line) (l .out) (l .opens) (l .reserves) (l .helds) (l .day) (l .rows) (l .kept) (l .at) (l .used) g (nl .result) (nl .last .0) (nl .ensures)
     (l .out) refl part enough (counting (l .day) (dropped .result .count)) rows
-    (dropped .last .1 .1 .1 .1 .1 .1 .0) (dropped .last .1 .1 .1 .1 .1 .1 .1 .0) (dropped .last .1 .1 .1 .1 .1 .1 .1 .1 .0) answer (dropped .result .length) took in
+    (dropped .last .1 .1 .1 .1 .1 .0) (dropped .last .1 .1 .1 .1 .1 .1 .0) (dropped .last .1 .1 .1 .1 .1 .1 .1 .0) answer (dropped .result .length) took in
     let out′ = putMid (l .used) (length (l .out) - l .used) (l .out) answer in
-    let long : length out′ ≡ length (l .out) = back-length (l .used) (l .out) answer (g .room) (dropped .kept .1 .1 .1 .1 .1 .1 .1 .1 .1 .0) in
+    let long : length out′ ≡ length (l .out) = back-length (l .used) (l .out) answer (g .room) (dropped .kept .1 .1 .1 .1 .1 .1 .1 .1 .0) in
     let fits : l .used + dropped .result .length ≤ length out′ = omega (arith, few, left, long, g .room) in (
       nl .kept .0 ∙ l .inv .0,
-      dropped .kept .1 .1 .1 .1 .1 .1 .0 ∙ l .inv .1,
-      dropped .kept .1 .1 .1 .1 .1 .1 .1 .0 ∙ l .inv .2,
-      dropped .kept .1 .1 .1 .1 .1 .1 .1 .1 .0 ∙ l .inv .3,
+      dropped .kept .1 .1 .1 .1 .1 .0 ∙ l .inv .1,
+      dropped .kept .1 .1 .1 .1 .1 .1 .0 ∙ l .inv .2,
+      dropped .kept .1 .1 .1 .1 .1 .1 .1 .0 ∙ l .inv .3,
       long ∙ l .inv .4,
       turn-line (a .file .now) (a .c) (sessionAt (a .s .day) (a .s .rows) (a .opens .now) (a .reserves .now) (a .helds .now)) (take (a .held) (a .line .now)) (a .bytes .now) (l .line) (l .out) (l .opens) (l .reserves) (l .helds) (l .day) (l .rows) (l .kept) (l .at) (l .used) g (nl .result) (nl .last .0) (nl .ensures)
           (l .out) refl part enough (counting (l .day) (dropped .result .count)) rows
-          (dropped .last .1 .1 .1 .1 .1 .1 .0) (dropped .last .1 .1 .1 .1 .1 .1 .1 .0) (dropped .last .1 .1 .1 .1 .1 .1 .1 .1 .0) answer (dropped .result .length) took
-          (not-false (nl .result .ended) (c .before .before .before .before .before .before .before .before .before .before .before .before .before .before .before .before .before .before .before .before .before .before .if2 .left)) out′ (tail-back (l .used) (l .out) answer) fits,
+          (dropped .last .1 .1 .1 .1 .1 .0) (dropped .last .1 .1 .1 .1 .1 .1 .0) (dropped .last .1 .1 .1 .1 .1 .1 .1 .0) answer (dropped .result .length) took
+          (not-false (nl .result .ended) (c .before .before .before .before .before .before .before .before .before .before .before .before .before .before .before .before .before .before .before .before .if2 .left)) out′ (tail-back (l .used) (l .out) answer) fits,
       l .inv .6,
-      dropped .kept .1 .1 .1 .1 .1 .0 ∙ l .inv .7,
+      l .inv .7,
       l .inv .8,
       record { looked = λ h. absurd (omega arith); tabled = λ h. absurd (omega arith) },
     )
@@ -637,7 +634,6 @@ serve-bytes-spec =
     loop-less-3
     loop-again-3
     enum-known-order-2
-    slice-aggregate-step-drop
     sub-step-drop
     part-step-drop-start
     part-step-drop-end

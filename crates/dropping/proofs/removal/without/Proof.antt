@@ -1,6 +1,4 @@
 -- `dropping::removal::without` meets its contract, by whether i is below `count`. Assumes nothing.
-use mathlib.Core.Path.{_≡_}
-use native.Mathlib.Omega.{arith}
 use borrow.Author.Needs.{needs}
 use borrow.Author.Tests.{lt-ltb, le-ltb}
 use Rattle.dropping.proofs.removal.without.Statement.{statement}
