@@ -1,7 +1,6 @@
 -- A request placed on the sheet of the standing bookings: what the search asks, and what its answer leaves to be done. A sheet
 -- that was laid first counts as the one that was lent. Assumes nothing.
-use mathlib.Core.Path.{_≡_, refl, sym, ap, _∙_}
-use mathlib.Core.Bool.{Bool}
+use mathlib.Core.Path.{_≡_, sym, ap, _∙_}
 use mathlib.Core.List.{List}
 use Prim.Native.Nat.{ℕ, min, _+_, _≤_}
 use native.Mathlib.Decide.{decLe}
@@ -16,7 +15,7 @@ use Rattle.films.specs.Catalogue.{catalogueOf}
 use Rattle.films.specs.Questions.{verdict}
 use Rattle.films.specs.declared.types.Catalogue.{Catalogue}
 use Rattle.retrieval.specs.Stored.{InRange}
-use Rattle.model.specs.Day.{Setting, State, recordOf}
+use Rattle.model.specs.Day.{Setting, recordOf}
 use Rattle.model.specs.Fit as Fit
 use Rattle.model.specs.Fit.{firstOf}
 use Rattle.model.specs.Calls.{workedOut, startOf, bookWith, bookCall}
@@ -47,7 +46,7 @@ use Rattle.questions.specs.ListSound.{StreamsOf}
 use Rattle.questions.specs.SheetOf.{sheet-kept}
 use Rattle.booking.specs.Contract.{Leaves, Placing, bookAsks}
 use Rattle.booking.specs.Own.{requestOf}
-use Rattle.booking.specs.Placed.{Started, stands, asks-same, asks-lent, kept-laid, sheet-of, in-range, window, leaves-none, starts}
+use Rattle.booking.specs.Placed.{Started, stands, asks-same, kept-laid, sheet-of, in-range, window, leaves-none, starts}
 
 module _ (f : List ℕ) (day : Day) (rows : List Booking) (places : ℕ) (q : Request) (xs : List Stream) (y : Stream) (hs o r h : List ℕ) (bytes : Bytes f)
     (full : length rows ≡ maxBookings) (g : Placing f day rows places q xs y hs o r h) where

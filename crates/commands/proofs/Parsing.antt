@@ -1,18 +1,18 @@
 -- The command by the first four bytes and the numerals read after them is the grammar's: `parsed`. Assumes nothing.
-use Prim.Native.Nat.{ℕ, suc, _+_, _<_, _≤_}
+use Prim.Native.Nat.{ℕ, _+_, _<_, _≤_}
 use mathlib.Core.Path.{_≡_, refl, sym, ap, _∙_}
 use mathlib.Core.Bool.{Bool, true, false, cond, not, _&&_}
 use mathlib.Core.List.{List, [], _∷_, _++_, map}
 use native.Mathlib.Omega.{arith}
 use lib.Dec.{leb, eqb}
 use lib.ListN.{length, take, drop, take-append-drop, length-take, length-map}
-use borrow.Author.Tests.{le-leb, eq-eqb, ne-eqb, eqb-true, eqb-false, leb-false, not-true}
+use borrow.Author.Tests.{le-leb, ne-eqb, eqb-true, eqb-false, leb-false, not-true}
 use Rattle.limits.specs.Bounds.{maxLine}
 use Rattle.laws.specs.Fold.{fold}
 use Rattle.laws.specs.Tests.{all, left, right, join}
 use Rattle.commands.specs.Bytes.{space}
 use Rattle.commands.specs.Grammar.{firstWord, laterWords, isNumeral, value, same, openWord, bookWord, dropWord, playWord, openOf, bookOf, dropOf, playOf, byVerb, commandOf}
-use Rattle.commands.specs.Scan.{maxNumerals, noDigits, noFields, joined, argumentsOf, openIn, bookIn, dropIn, playIn, laterVerbIn, verbIn}
+use Rattle.commands.specs.Scan.{maxNumerals, noFields, joined, argumentsOf, openIn, bookIn, dropIn, playIn, laterVerbIn, verbIn}
 use Rattle.commands.specs.declared.Command.{Command}
 use Rattle.commands.specs.declared.Command.the-variants.{Bad}
 use Rattle.commands.specs.declared.Fields.{Fields}

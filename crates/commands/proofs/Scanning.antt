@@ -7,12 +7,12 @@ use mathlib.Core.List.{List, [], _∷_, _++_, map, append-nil, append-assoc}
 use native.Mathlib.Omega.{arith}
 use lib.Dec.{leb, ltb, eqb}
 use lib.ListN.{length, length-append}
-use borrow.Author.Tests.{lt-ltb, le-ltb, le-leb, lt-leb, eq-eqb, ne-eqb, ltb-true, ltb-false, leb-true, eqb-true}
+use borrow.Author.Tests.{lt-ltb, le-leb, lt-leb, ne-eqb, ltb-true, ltb-false, leb-true}
 use Rattle.limits.specs.Bounds.{maxDigits}
 use Rattle.laws.specs.Fold.{fold}
 use Rattle.laws.specs.Tests.{all, left, right, join, all-append}
 use Rattle.commands.specs.Bytes.{space, digitZero}
-use Rattle.commands.specs.Grammar.{firstWord, laterWords, isDigit, isNumeral, value, valueFrom}
+use Rattle.commands.specs.Grammar.{firstWord, laterWords, isDigit, isNumeral, value}
 use Rattle.commands.specs.Values.{value-append, value-grows}
 use Rattle.commands.specs.Scan.{maxNumerals, noDigits, joined, closed, digitRead, stepped, finished}
 use Rattle.commands.specs.declared.Fields.{Fields}

@@ -7,7 +7,6 @@ use lib.ListN.{length, getD}
 use Rattle.limits.specs.Bounds.{maxLine, maxDigits}
 use Rattle.limits.specs.Refusals.{commandForm}
 use Rattle.laws.specs.Tests.{all}
-use Rattle.model.specs.declared.Request.{Request}
 use Rattle.commands.specs.Bytes.{space, digitZero, digitNine, bytes}
 use Rattle.commands.specs.declared.Command.{Command}
 use Rattle.commands.specs.declared.Command.the-variants.{Open, Book, Drop, Play, Bad}

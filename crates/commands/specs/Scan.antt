@@ -2,10 +2,9 @@
 use Prim.Native.Nat.{ℕ, _+_, _-_, _*_, _^_}
 use mathlib.Core.Bool.{cond, _&&_}
 use mathlib.Core.List.{List, [], _∷_}
-use lib.Dec.{leb, ltb, eqb}
+use lib.Dec.{ltb, eqb}
 use Rattle.limits.specs.Bounds.{maxDigits}
 use Rattle.laws.specs.Fold.{fold}
-use Rattle.model.specs.declared.Request.{Request}
 use Rattle.commands.specs.Bytes.{space, digitZero}
 use Rattle.commands.specs.Grammar.{isDigit, isName, same, openWord, bookWord, dropWord, playWord}
 use Rattle.commands.specs.declared.Command.{Command}

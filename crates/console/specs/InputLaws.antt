@@ -13,7 +13,6 @@ use Rattle.lines.specs.declared.Splitter.{Splitter}
 use Rattle.console.specs.Session.{SessionState}
 use Rattle.console.specs.Contract.{After, stepOf, printed}
 use Rattle.console.specs.Input.{fedLine, afterLine, Feeds, nothing, answered, servedOf, endedOf, servedText}
-use Rattle.console.specs.declared.input.Fed.{Fed}
 
 -- ---- The loop that feeds a line: p has been fed, and l is left
 

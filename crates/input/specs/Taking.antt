@@ -1,11 +1,10 @@
 -- A line taken from the input: the loops that find its end and keep its beginning, and what they come to. Assumes nothing.
-use mathlib.Core.Path.{_≡_, refl, sym, ap, _∙_, subst}
+use mathlib.Core.Path.{_≡_, refl, sym, ap, _∙_}
 use mathlib.Core.Bool.{true, false, not}
-use mathlib.Core.List.{List, [], _∷_, _++_, append-assoc, append-nil}
-use Prim.Native.Nat.{ℕ, suc, _+_, _-_, _≤_, _<_}
+use mathlib.Core.List.{List, [], _∷_, _++_, append-assoc}
+use Prim.Native.Nat.{ℕ, _+_, _-_, _≤_, _<_}
 use native.Mathlib.Omega.{arith}
 use native.Mathlib.Numerals.{add-one}
-use lib.Dec.{eqb}
 use lib.ListN.{length, take, drop, set, getD, length-append, length-take, length-drop}
 use lib.Seq.{take-all, take-append-le, take-suc-set, length-take-le}
 use borrow.Author.Tests.{ne-eqb}
@@ -15,10 +14,9 @@ use Rattle.commands.specs.Grammar.{commandOf}
 use Rattle.commands.specs.declared.Command.{Command}
 use Rattle.lines.specs.Splits.{inside}
 use Rattle.input.specs.Serving.{lineBytes, keptOf}
-use Rattle.input.specs.Contract.{segment, EndsAt, takenRun, Takes}
+use Rattle.input.specs.Contract.{segment, EndsAt, Takes}
 use Rattle.input.specs.LineLaws.{segment-none, segment-more, segment-parts}
 use Rattle.input.specs.RunLaws.{run-inside, run-line}
-use Rattle.input.specs.declared.Taken.{Taken}
 
 -- ---- The end of a line
 

@@ -1,10 +1,10 @@
 -- Numbers as bytes, least significant first. Assumes nothing.
-use Prim.Native.Nat.{ℕ, zero, suc, _+_, _*_, _/_, _%_, _^_, _≤_, _<_}
-use mathlib.Core.Path.{_≡_, refl, sym, ap, _∙_}
-use mathlib.Core.List.{List, [], _∷_, _++_}
+use Prim.Native.Nat.{ℕ, zero, suc, _+_, _*_, _/_, _%_, _^_, _<_}
+use mathlib.Core.Path.{_≡_, refl, ap}
+use mathlib.Core.List.{List, [], _∷_}
 use native.Mathlib.Omega.{arith}
-use native.Mathlib.Nat.{pow-suc, pow-succ'}
-use lib.ListN.{length, getD, take, drop}
+use native.Mathlib.Nat.{pow-succ'}
+use lib.ListN.{length, getD}
 
 -- every element is a byte
 abbrev pub Bytes : List ℕ → Type 0

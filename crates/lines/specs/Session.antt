@@ -5,7 +5,6 @@ use mathlib.Core.List.{List, [], _∷_, map}
 use Rattle.commands.specs.Bytes.{bytes}
 use Rattle.commands.specs.Grammar.{openOf, bookOf, dropOf, playOf, byVerb, commandOf}
 use Rattle.lines.specs.Lines.{lines}
-use Rattle.commands.specs.declared.Command.{Command}
 use Rattle.commands.specs.declared.Command.the-variants.{Open, Book, Drop, Play, Bad}
 
 abbrev sessionInput : List ℕ

@@ -8,14 +8,14 @@ use mathlib.Core.Option.{Option, none, some}
 use native.Mathlib.Numerals.{add-one}
 use native.Mathlib.Omega.{arith}
 use lib.Dec.{leb, ltb, eqb}
-use lib.ListN.{length, take, set, replicate, length-append, length-set, length-replicate}
+use lib.ListN.{length, take, length-append, length-set, length-replicate}
 use lib.Seq.{take-all, take-append-le, take-suc-set}
-use borrow.Author.Tests.{lt-ltb, le-ltb, le-leb, lt-leb, ne-eqb, ltb-true, ltb-false, leb-true, leb-false, not-true}
+use borrow.Author.Tests.{lt-ltb, le-ltb, ne-eqb, ltb-true, ltb-false, leb-true, leb-false, not-true}
 use Rattle.limits.specs.Bounds.{maxLine}
 use Rattle.laws.specs.Tests.{all, left, right, join, all-append}
 use Rattle.commands.specs.Bytes.{lineEnd}
 use Rattle.commands.specs.Grammar.{commandOf}
-use Rattle.lines.specs.Lines.{longer, lines, kept, commandHeld, started, continued, appended, fed, heldOf, given}
+use Rattle.lines.specs.Lines.{lines, kept, commandHeld, started, continued, appended, fed, heldOf, given}
 use Rattle.commands.specs.declared.Command.{Command}
 use Rattle.lines.specs.declared.Splitter.{Splitter}
 

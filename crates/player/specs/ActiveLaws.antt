@@ -1,14 +1,13 @@
 -- The active bookings, row by row: one that is open in none of the rounds has no part in them, and a copied row tells what the row
 -- does that it is copied from. Assumes nothing.
-use mathlib.Core.Path.{_≡_, refl, sym, ap, ap₂, _∙_}
-use mathlib.Core.Bool.{true, false, cond}
-use mathlib.Core.List.{List, [], _++_}
+use mathlib.Core.Path.{_≡_, refl, sym, ap, _∙_}
+use mathlib.Core.Bool.{true, false}
+use mathlib.Core.List.{List}
 use Prim.Native.Nat.{ℕ, zero, suc, _+_, _*_, _≤_, _<_}
 use native.Mathlib.Decide.{decLe}
 use native.Mathlib.Nat.{add-zero}
 use native.Mathlib.Omega.{arith}
-use lib.ListN.{length, getD, take}
-use lib.Bits.{bitOr}
+use lib.ListN.{length, take}
 use Rattle.films.specs.declared.types.Catalogue.{Catalogue}
 use Rattle.model.specs.Calls.{cabsJoined}
 use Rattle.model.specs.Report.{linesOf}
@@ -16,15 +15,13 @@ use Rattle.model.specs.declared.Booking.{Booking}
 use Rattle.model.specs.declared.Day.{Day}
 use Rattle.load.specs.Basic.{Playable}
 use Rattle.load.specs.Stream.{endOf, openIn}
-use Rattle.load.specs.declared.stream.Stream.{Stream}
 use Rattle.questions.specs.Given.{settingAt}
-use Rattle.playing.specs.CabLaws.{cabsIn}
-use Rattle.table.specs.Table.{rowWords, withRow, nameAt, streamAt, endAt, RowIs, Ended, Rows}
+use Rattle.table.specs.Table.{rowWords, withRow, nameAt, streamAt, endAt, RowIs, Rows}
 use Rattle.table.specs.Words.{linesWords}
 use Rattle.table.specs.TableLaws.{SameRow, same-stream, row-written, length-written, row-other}
 use Rattle.player.specs.Ahead.{apartFrom}
 use Rattle.player.specs.AheadLaws.{apart-shut}
-use Rattle.player.specs.Round.{heldWords, roundWords, roundCabs, roundOpen, OfDay}
+use Rattle.player.specs.Round.{roundWords, roundCabs, roundOpen, OfDay}
 use Rattle.player.specs.RoundLaws.{words-next, words-shut, cabs-next, cabs-shut, open-next, day-words, day-open, day-cabs}
 use Rattle.player.specs.Active.{Active}
 

@@ -1,22 +1,22 @@
 -- The rounds in which bookings open and end, by their streams. Assumes nothing.
-use mathlib.Core.Path.{_≡_, refl, sym, ap, ap₂, _∙_}
-use mathlib.Core.Bool.{Bool, true, _&&_}
+use mathlib.Core.Path.{_≡_, refl, sym, ap, _∙_}
+use mathlib.Core.Bool.{Bool, true}
 use mathlib.Core.List.{List, [], _∷_, _++_, map}
-use Prim.Native.Nat.{ℕ, zero, suc, _+_, _≤_, _<_}
+use Prim.Native.Nat.{ℕ, suc, _+_, _≤_, _<_}
 use native.Mathlib.Omega.{arith}
 use lib.Dec.{leb}
 use lib.ListN.{length, getD, take, drop, length-append, length-drop, length-map}
 use lib.Seq.{getD-take, length-take-le, take-at}
 use borrow.Author.Tests.{le-leb, leb-true}
-use Rattle.limits.specs.Bounds.{maxBookings, maxDay, maxReserve}
+use Rattle.limits.specs.Bounds.{maxBookings, maxReserve}
 use Rattle.laws.specs.Tests.{all, all-at}
 use Rattle.lists.specs.Rows.{Row}
 use Rattle.lists.specs.Disk.{openRows, reserveRows, rowsKept}
-use Rattle.model.specs.Calls.{perRound, workedOut}
+use Rattle.model.specs.Calls.{workedOut}
 use Rattle.model.specs.PlacesLaws.{perRound-same}
 use Rattle.sorting.specs.Order.{upperHalf, SortedBy}
 use Rattle.sorting.specs.OrderLaws.{same-count, all-same}
-use Rattle.segments.specs.Events.{roundUnit, eventOf, roundOf, startsOf, openings, closings, Proper, EachProper, Events, events-by-round, round-of}
+use Rattle.segments.specs.Events.{eventOf, roundOf, startsOf, openings, closings, EachProper, Events, events-by-round, round-of}
 use Rattle.segments.specs.Timeline.{events-timeline}
 use Rattle.segments.specs.Laying.{LaysLoads}
 use Rattle.load.specs.Basic.{Bounded, Within, EachOf}

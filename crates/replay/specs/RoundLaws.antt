@@ -1,8 +1,8 @@
 -- PLAYs one after the other: a round that is written, and a run that goes on. Assumes nothing.
-use mathlib.Core.Path.{_≡_, refl, sym, ap, ap₂, _∙_}
+use mathlib.Core.Path.{_≡_, refl, sym, ap, _∙_}
 use mathlib.Core.Bool.{true, false, true≢false}
 use mathlib.Core.List.{List, _++_}
-use Prim.Native.Nat.{ℕ, _+_, _-_, _*_, _/_, _≤_, _<_}
+use Prim.Native.Nat.{ℕ, _+_, _-_, _*_, _≤_, _<_}
 use native.Mathlib.Omega.{arith}
 use lib.ListN.{length, take}
 use lib.Count.{ones}
@@ -36,7 +36,7 @@ use Rattle.replay.specs.Log.{answerWords}
 use Rattle.replay.specs.Writing.{wrote-under, lines-length}
 use Rattle.replay.specs.StepLaws.{play-whole, tries-none, tries-step}
 use Rattle.replay.specs.DeskRun.{asStep}
-use Rattle.replay.specs.LoopLaws.{Going, going-next}
+use Rattle.replay.specs.LoopLaws.{going-next}
 use Rattle.replay.specs.Pictured.{Pictured, pictured-between, pictured-there, between-plays}
 use Rattle.replay.specs.Journal.{entryAt}
 use Rattle.replay.specs.Rounds.{later, StandingOf, Prepared, Tried, TriedOf, SpanAsks, TabledFor, SpanGives, Spanning}

@@ -3,19 +3,16 @@
 use mathlib.Core.Path.{_≡_, sym, ap, fun-ext}
 use mathlib.Core.Bool.{Bool, _&&_}
 use mathlib.Core.List.{List}
-use Prim.Native.Nat.{ℕ, zero, _+_, _-_, _≤_, _<_}
+use Prim.Native.Nat.{ℕ, _+_, _-_}
 use native.Mathlib.Omega.{arith}
-use lib.ListN.{length, getD, replicate, length-replicate, getD-replicate}
-use lib.Dec.{leb}
+use lib.ListN.{length}
 use Rattle.laws.specs.Tests.{below}
-use Rattle.retrieval.specs.Stored.{sendsAt, InRange, held-bound, length-sendsAt, drop-all}
-use Rattle.retrieval.specs.Sheet.{plus, heldIn, Adds}
-use Rattle.retrieval.specs.SheetLaws.{plus-at, length-plus, length-heldIn, heldIn-whole, heldIn-small, largest-zeros, room-largest}
+use Rattle.retrieval.specs.Stored.{InRange, held-bound}
+use Rattle.retrieval.specs.SheetLaws.{length-heldIn, heldIn-whole}
 use Rattle.load.specs.Stream.{lengthOf, profileOf}
 use Rattle.load.specs.declared.stream.Stream.{Stream}
 use Rattle.search.specs.Fit.{queryOf, diskFits, memoryFits, cabsFit, fitsAt, HeldRows}
-use Rattle.search.specs.Search.{fits, cabsApart, testsOf, Walks}
-use Rattle.search.specs.CabLaws.{below-same}
+use Rattle.search.specs.Search.{fits, cabsApart, testsOf}
 
 module _ (y : Stream) (opens reserves helds : List ℕ) (disk memory : ℕ) where
   -- the columns tell of its cabs what the streams tell

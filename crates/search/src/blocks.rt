@@ -8,7 +8,7 @@ ghost use Prim.Native.Nat.{_+_, _-_, _≤_, _<_};
 ghost use lib.ListN.{length, getD};
 ghost use lib.Dec.{leb};
 ghost use Rattle.laws.specs.Sums as sums;
-ghost use Rattle.search.specs.Fit.{memoryFits, HeldRows};
+ghost use Rattle.search.specs.Fit.{HeldRows};
 ghost use Rattle.search.specs.Blocks.{marks, PassIn, Taken, AlwaysTaken};
 
 // marks of the longest stream, which has 4,352 rounds

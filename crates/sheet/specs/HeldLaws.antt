@@ -1,5 +1,5 @@
 -- What the streams hold laid on a list by round, stream by stream. Assumes nothing.
-use mathlib.Core.Path.{_≡_, refl, ap, ap₂, _∙_, sym}
+use mathlib.Core.Path.{_≡_, ap, ap₂, _∙_, sym}
 use mathlib.Core.List.{List, _++_}
 use Prim.Native.Nat.{ℕ, zero, _+_, _-_, _*_, _≤_, _<_}
 use native.Mathlib.Omega.{arith}
@@ -16,7 +16,7 @@ use Rattle.model.specs.Calls.{perRound, workedOut}
 use Rattle.load.specs.Stream.{noStream, lengthOf, profileOf, holdsIn, heldIn}
 use Rattle.load.specs.Basic.{Playable, Within, EachOf}
 use Rattle.load.specs.declared.stream.Stream.{Stream}
-use Rattle.sheet.specs.Parts.{addAt, length-addAt, largest-addAt}
+use Rattle.sheet.specs.Parts.{length-addAt, largest-addAt}
 use Rattle.sheet.specs.SheetLaws.{perRound-next, perRound-zeros, held-share, tail-adds, tail-added}
 
 -- an empty list for the first n of xs

@@ -1,9 +1,9 @@
 -- Laws of a list by round that is packed: written, put back, compared from the last round to the first. Assumes nothing.
 use mathlib.Core.Path.{_≡_, refl, sym, ap, ap₂, _∙_}
-use mathlib.Core.Bool.{Bool, true, false, true≢false}
+use mathlib.Core.Bool.{Bool, true, false}
 use mathlib.Core.List.{List, [], _∷_, _++_}
 use mathlib.Core.Logic.{_⊎_, inl, inr}
-use Prim.Native.Nat.{ℕ, zero, suc, _+_, _-_, _*_, _/_, _%_, _^_, _≤_, _<_}
+use Prim.Native.Nat.{ℕ, zero, suc, _+_, _-_, _*_, _^_, _≤_, _<_}
 use native.Mathlib.Decide.{decLe}
 use native.Mathlib.Nat.{mod-eq-of-lt, add-mul-mod-self-right, div-eq-of-lt-le}
 use native.Mathlib.Numerals.{add-one}
@@ -13,8 +13,7 @@ use lib.Seq.{ext-getD, getD-drop, getD-set-same, getD-set-other}
 use Rattle.model.specs.Calls.{perRound}
 use Rattle.load.specs.Stream.{heldIn}
 use Rattle.load.specs.declared.stream.Stream.{Stream}
-use Rattle.sheet.specs.Memory.{Agrees}
-use Rattle.sheet.specs.Packed.{upper, lower, front, heldsOf, lentOf, Packable, Settled, Put, Fits, Ready, Compares}
+use Rattle.sheet.specs.Packed.{upper, lower, front, heldsOf, lentOf, Settled, Put, Fits, Ready, Compares}
 use Rattle.sheet.specs.Sheet.{Laid}
 use Rattle.sheet.specs.declared.packed.Compared.{Compared}
 use Rattle.sheet.specs.declared.packed.Packed.{Packed}

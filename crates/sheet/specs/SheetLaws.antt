@@ -2,7 +2,7 @@
 use mathlib.Core.Path.{_≡_, refl, sym, ap, _∙_}
 use mathlib.Core.Bool.{cond}
 use mathlib.Core.List.{List, [], _∷_}
-use Prim.Native.Nat.{ℕ, zero, suc, _+_, _-_, _*_, _≤_, _<_}
+use Prim.Native.Nat.{ℕ, zero, suc, _+_, _-_, _≤_, _<_}
 use native.Mathlib.Decide.{decLe}
 use native.Mathlib.Nat.{not-suc-le-zero, le-of-suc-le-suc}
 use native.Mathlib.Numerals.{add-one}
@@ -12,19 +12,18 @@ use lib.Seq.{ext-getD}
 use borrow.Rule.Slice.PartMut.{midOf, putMid}
 use Rattle.laws.specs.Parts.{tail-part, tail-length}
 use Rattle.laws.specs.Sums.{largest}
-use Rattle.limits.specs.Bounds.{maxBookings, maxReserve}
-use Rattle.retrieval.specs.Stored.{maxHeld, profile-small, drop-all, length-sendsAt}
+use Rattle.retrieval.specs.Stored.{maxHeld, drop-all, length-sendsAt}
 use Rattle.retrieval.specs.Sheet.{plus, Adds}
 use Rattle.retrieval.specs.Sheet as retrieval-sheet
-use Rattle.retrieval.specs.SheetLaws.{heldIn-whole, heldIn-small, room-largest, largest-part, largest-zeros}
+use Rattle.retrieval.specs.SheetLaws.{heldIn-whole, heldIn-small, room-largest, largest-part}
 use Rattle.model.specs.Calls.{perRound}
 use Rattle.model.specs.PlacesLaws.{length-perRound, perRound-same}
 use Rattle.model.specs.CodeLaws.{perRound-at}
-use Rattle.load.specs.Stream.{noStream, sendsOf, lengthOf, endOf, openIn, profileOf, holdsIn, total, heldIn}
+use Rattle.load.specs.Stream.{sendsOf, lengthOf, endOf, openIn, profileOf, holdsIn, total, heldIn}
 use Rattle.load.specs.StreamLaws.{open-early, open-late, open-within}
-use Rattle.load.specs.Basic.{Playable, Within, EachOf}
+use Rattle.load.specs.Basic.{Playable}
 use Rattle.load.specs.declared.stream.Stream.{Stream}
-use Rattle.sheet.specs.Parts.{addAt, share, share-before, share-from, length-addAt, addAt-at, addAt-back, largest-addAt}
+use Rattle.sheet.specs.Parts.{addAt, share, share-before, share-from, length-addAt, addAt-at, addAt-back}
 use Rattle.sheet.specs.WindowLaws.{length-profileOf, holds-early, holds-late, holds-within}
 use Rattle.sheet.specs.FillLaws.{total-take}
 use Rattle.sheet.specs.Sheet.{Below}

@@ -1,5 +1,5 @@
 -- Two streams added to a window at once: the rounds from w to e - 1, the first of a list's places. Assumes nothing.
-use mathlib.Core.Path.{_≡_, refl, sym, ap, subst, _∙_}
+use mathlib.Core.Path.{_≡_, sym, ap, _∙_}
 use mathlib.Core.List.{List, _++_}
 use Prim.Native.Nat.{ℕ, _+_, _-_, _*_, _^_, _≤_, _<_}
 use native.Mathlib.Decide.{decLe}
@@ -9,7 +9,7 @@ use lib.Seq.{take-at, drop-at, getD-append-add, getD-take, getD-drop}
 use Rattle.laws.specs.Sums.{largest}
 use Rattle.retrieval.specs.Carry.{carry}
 use Rattle.retrieval.specs.Both.{heldOver, carriedTo, AddsRun, AddsBoth}
-use Rattle.retrieval.specs.Sheet.{plus, heldIn}
+use Rattle.retrieval.specs.Sheet.{plus}
 use Rattle.retrieval.specs.SheetLaws.{plus-at, length-plus, largest-plus, length-heldIn, heldIn-at, heldIn-small, room-largest, largest-part}
 use Rattle.retrieval.specs.Stored.{maxHeld}
 use Rattle.retrieval.specs.declared.both.Run.{Run}

@@ -15,9 +15,9 @@ use retrieval::clear::clear;
 use table::streams::stream_at;
 ghost use mathlib.Core.Path.{_≡_};
 ghost use mathlib.Core.Bool.{false};
-ghost use Prim.Native.Nat.{ℕ, _+_, _-_, _≤_, _<_, min, max};
+ghost use Prim.Native.Nat.{_+_, _-_, _≤_, _<_};
 ghost use lib.ListN.{length, take, replicate};
-ghost use lib.Dec.{leb, eqb};
+ghost use lib.Dec.{eqb};
 ghost use Rattle.limits.specs.Bounds.{maxBookings};
 ghost use Rattle.laws.specs.Tests.{all};
 ghost use Rattle.load.specs.Basic.{Bounded, Playable, Within, EachOf};
@@ -32,6 +32,9 @@ const SHORT: usize = 1024;
 const MIDDLE: usize = 4096;
 
 const LONG: usize = 8192;
+
+// streams for which short windows do on any day
+const FEW: usize = 16;
 
 // Whether the rounds of a day keep the memory limit, and whether a list by round, packed so, has just what is held in them.
 pub struct Checked {
@@ -280,8 +283,8 @@ fn held_long(
     held_windows(file, table, count, day_rounds, memory, &mut window, helds)
 }
 
-// `held_windows` in windows of a length that suits the day: to zero a long one takes longer than a short day's check, and in short ones
-// films are taken up more often.
+// `held_windows` in windows of a length that suits the day: to zero a long one takes longer than to check a short day or one of few
+// streams, and in short ones films are taken up more often.
 fn held_day(
     file: &[u8],
     table: &[u64],
@@ -295,6 +298,9 @@ fn held_day(
     ensures { λ r. ⌜ Settled (r .packed) «day_rounds» (now (helds .entry)) (now (helds .exit)) ⌝ }
 {
     if day_rounds <= SHORT {
+        return held_short(file, table, count, day_rounds, memory, helds);
+    }
+    if count <= FEW {
         return held_short(file, table, count, day_rounds, memory, helds);
     }
     if day_rounds <= LONG {

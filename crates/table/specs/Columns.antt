@@ -6,9 +6,7 @@ use native.Mathlib.Omega.{arith}
 use native.Mathlib.Decide.{decLe}
 use lib.ListN.{length, getD, set, take, length-set, length-map}
 use lib.Seq.{ext-getD, getD-take, length-take-le, getD-set-same, getD-set-other}
-use Rattle.limits.specs.Bounds.{maxBookings}
 use Rattle.load.specs.Lists.{map-at}
-use Rattle.load.specs.Stream.{endOf}
 use Rattle.load.specs.declared.stream.Stream.{Stream}
 
 -- words of a table: a row for each of a day's bookings

@@ -7,7 +7,7 @@ ghost use Prim.Native.Nat.{_+_, _*_, _-_, _^_, _≤_, _<_};
 ghost use lib.ListN.{length};
 ghost use Rattle.load.specs.Stream.{openIn, endOf};
 ghost use Rattle.table.specs.Rows.{MovedDown};
-ghost use Rattle.table.specs.Table.{rowWords, nameAt, streamAt, endAt, withRow, Ended};
+ghost use Rattle.table.specs.Table.{rowWords, nameAt, streamAt, endAt, withRow};
 
 // words of a row
 pub const ROW_WORDS: usize = 8;

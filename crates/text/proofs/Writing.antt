@@ -1,6 +1,6 @@
 -- Writing text after text. Assumes nothing.
-use Prim.Native.Nat.{ℕ, zero, suc, _+_, _-_, _*_, _/_, _%_, _^_, _<_, _≤_}
-use mathlib.Core.Path.{_≡_, refl, sym, ap, _∙_}
+use Prim.Native.Nat.{ℕ, _+_, _-_, _/_, _%_, _^_, _<_, _≤_}
+use mathlib.Core.Path.{_≡_, sym, ap, _∙_}
 use mathlib.Core.List.{List, [], _∷_, _++_, append-assoc, append-nil}
 use native.Mathlib.Numerals.{add-one}
 use native.Mathlib.Omega.{arith}
@@ -8,11 +8,9 @@ use borrow.Author.Tests.{le-leb, lt-leb}
 use lib.ListN.{length, take, drop, set, getD, length-append, length-take, length-drop, take-append-drop}
 use lib.Seq.{set-split, take-append-le, take-take, take-at, drop-at, drop-drop, length-take-le, take-suc}
 use Rattle.limits.specs.Bounds.{maxDigits}
-use Rattle.commands.specs.Bytes.{digitZero}
 use Rattle.text.specs.Text.{decimal, twoDigits, field}
 use Rattle.text.specs.Digits.{decimal-length, decimal-pairs, field-length}
 use Rattle.text.specs.Write.{placed, Wrote, maxText, bufferAfter, placeAfter}
-use Rattle.text.specs.declared.Written.{Written}
 use Rattle.text.specs.declared.Written.the-variants.{Next, NoRoom}
 
 -- ---- Texts

@@ -18,7 +18,7 @@ use Rattle.model.specs.declared.Answer.the-variants.{Refused, Opened, Booked, D
 use Rattle.commands.specs.Bytes.{digitZero}
 use Rattle.commands.specs.Grammar.{isDigit, isNumeral, value}
 use Rattle.commands.specs.Values.{value-append}
-use Rattle.text.specs.Text.{spell, decimal, twoDigits, field, end, noWord, openedWord, bookedWord, droppedWord, roundWord, answerFields, answerText, lineText, reportText}
+use Rattle.text.specs.Text.{spell, decimal, twoDigits, field, end, noWord, bookedWord, droppedWord, roundWord, answerFields, answerText, lineText, reportText}
 use Rattle.text.specs.Write.{maxText}
 
 -- ---- Digits

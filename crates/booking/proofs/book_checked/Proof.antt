@@ -43,7 +43,9 @@ own-number-requires c κs =
     (start .pre .0, s .accepted, s .few, s .rounds, start .pre .2 .words, search needs)
 
 restore-requires : tie.Need-restore-requires
-restore-requires c κs = c .before .before .before .before .before .before .before .before .before .before .before .before .pre .6
+restore-requires c κs =
+    let p = c .before .before .before .before .before .before .before .before .before .before .before .before .pre .6 in
+    record { bits = omega (arith, p .bits); long = omega (arith, p .long) }
 
 same-length : tie.Need-same-length
 same-length c = search needs

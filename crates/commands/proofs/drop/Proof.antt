@@ -1,6 +1,4 @@
 -- `commands::drop` meets its contract: the definition's tests are the code's. Assumes nothing.
-use Prim.Native.Nat.{_^_}
-use native.Mathlib.Omega.{arith}
 use borrow.Author.Needs.{needs}
 use borrow.Author.Tests.{lt-ltb, le-ltb, eq-eqb, ne-eqb}
 use Rattle.commands.specs.Scan.{dropIn}

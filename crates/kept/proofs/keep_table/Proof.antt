@@ -1,7 +1,7 @@
 -- `kept::keep_table` meets its contract. The invariant: the rows of the first i bookings are written. The measure is the bookings that
 -- follow. Of a refused file nothing is said. Assumes nothing.
 use mathlib.Core.Path.{_≡_, refl, ap, _∙_}
-use Prim.Native.Nat.{ℕ, _+_, _-_, _*_, _≤_}
+use Prim.Native.Nat.{_+_, _-_, _*_, _≤_}
 use native.Mathlib.Omega.{arith}
 use borrow.Author.Needs.{needs}
 use lib.ListN.{length, take, getD}

@@ -1,8 +1,7 @@
 -- `retrieval::write_blank` meets its contract: the film is added to zeros; a schedule exists if its rounds leave nothing. Assumes
 -- nothing.
-use mathlib.Core.Path.{_≡_, sym, ap, _∙_}
-use Prim.Native.Nat.{ℕ, _+_}
-use native.Mathlib.Omega.{arith}
+use mathlib.Core.Path.{sym, ap, _∙_}
+use Prim.Native.Nat.{ℕ}
 use borrow.Author.Needs.{needs}
 use lib.Dec.{eqb}
 use Rattle.retrieval.specs.Stored.{sendsAt}

@@ -1,8 +1,7 @@
 -- `retrieval::write_profile` meets its contract: the list is zeroed before it is written. Assumes nothing.
-use mathlib.Core.Path.{_≡_, ap, _∙_}
+use mathlib.Core.Path.{ap, _∙_}
 use mathlib.Core.List.{List, _++_}
 use Prim.Native.Nat.{ℕ, _+_}
-use native.Mathlib.Omega.{arith}
 use borrow.Author.Needs.{needs}
 use Rattle.retrieval.specs.Carry.{profile}
 use Rattle.retrieval.specs.Stored.{sendsAt}

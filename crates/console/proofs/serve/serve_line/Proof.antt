@@ -1,5 +1,4 @@
 -- `console::serve::serve_line` meets its contract: a line fed, and answered if it has ended. Assumes nothing.
-use native.Mathlib.Omega.{arith}
 use borrow.Author.Needs.{needs}
 use Rattle.console.specs.Contract.{withSheet}
 use Rattle.console.specs.InputLaws.{feeds-none, served-none, served-one}

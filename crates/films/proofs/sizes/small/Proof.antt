@@ -1,8 +1,8 @@
 -- `films::sizes::small` meets its contract: the sizes before the one whose middle is at a multiple of 16 and this one, those from it
 -- on up to the last but one, and the last. Assumes nothing.
 use Prim.Native.Nat.{_+_, _*_, _-_, _/_, _%_}
-use mathlib.Core.Path.{_≡_, sym, ap, _∙_}
-use mathlib.Core.Bool.{true, _&&_}
+use mathlib.Core.Path.{sym, ap, _∙_}
+use mathlib.Core.Bool.{_&&_}
 use native.Mathlib.Omega.{arith}
 use borrow.Author.Needs.{needs}
 use borrow.Author.Tests.{not-true, not-false}

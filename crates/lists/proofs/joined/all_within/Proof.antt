@@ -1,7 +1,7 @@
 -- `lists::joined::all_within` meets its contract. The invariant: the join of the first i numbers is below 2^63 exactly if they are within
 -- the limit. The measure is what is left of the list. Assumes nothing.
 use mathlib.Core.Path.{_≡_, refl, sym}
-use Prim.Native.Nat.{ℕ, _-_, _^_, _≤_}
+use Prim.Native.Nat.{_-_, _^_, _≤_}
 use native.Mathlib.Omega.{arith}
 use borrow.Author.Needs.{needs}
 use borrow.Author.Tests.{le-leb}

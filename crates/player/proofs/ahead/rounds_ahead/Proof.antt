@@ -1,5 +1,5 @@
 -- `player::ahead::rounds_ahead` meets its contract: the quotient is the most rows that fit. Assumes nothing.
-use Prim.Native.Nat.{_+_, _*_, _/_, _<_, _≤_}
+use Prim.Native.Nat.{_+_, _/_, _<_}
 use native.Mathlib.Nat.{div-lt-iff-lt-mul, div-mul-le-self, lt-mul-div-succ, mul-comm}
 use native.Mathlib.Omega.{arith}
 use borrow.Author.Needs.{needs}

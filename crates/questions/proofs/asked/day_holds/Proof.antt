@@ -1,5 +1,5 @@
 -- `questions::asked::day_holds` meets its contract: the first test that fails decides. Assumes nothing.
-use mathlib.Core.Path.{_≡_, sym, _∙_}
+use mathlib.Core.Path.{sym, _∙_}
 use borrow.Author.Needs.{needs}
 use Rattle.questions.specs.Numbers.{dayHolds}
 use Rattle.questions.proofs.asked.day_holds.Statement.{statement}

@@ -1,5 +1,5 @@
 -- `questions::asked::opening_number` meets its contract: the first question that says no gives its number. Assumes nothing.
-use mathlib.Core.Path.{_≡_, sym, _∙_}
+use mathlib.Core.Path.{sym, _∙_}
 use borrow.Author.Needs.{needs}
 use borrow.Author.Tests.{not-true, not-false}
 use Rattle.questions.specs.Numbers.{openingAsks}

@@ -1,7 +1,6 @@
 -- `questions::events::gather` meets its contract: the words are those of the rows, and sorting them changes their order only. Assumes
 -- nothing.
 use borrow.Author.Needs.{needs}
-use mathlib.Core.Path.{sym}
 use native.Mathlib.Omega.{arith}
 use Rattle.table.specs.Columns.{filled-count}
 use Rattle.questions.specs.Events.{gathered, sorted-lengths}

@@ -1,11 +1,11 @@
 -- `questions::soundness::sound_list` meets its contract: the table's rows are tied to the bookings, so the tests of the rows are the
 -- model's of the bookings. Assumes nothing.
 use borrow.Author.Needs.{needs}
-use mathlib.Core.Path.{_≡_, refl, sym, ap, _∙_}
+use mathlib.Core.Path.{sym, _∙_}
 use mathlib.Core.Bool.{true≢false}
 use native.Mathlib.Omega.{arith}
 use borrow.Author.Tests.{not-true, not-false}
-use lib.ListN.{take, length}
+use lib.ListN.{take}
 use Rattle.films.specs.Catalogue.{catalogueOf}
 use Rattle.sheet.specs.Packed.{heldsOf}
 use Rattle.sheet.specs.PackedLaws.{settled-left}

@@ -3,8 +3,7 @@ use mathlib.Core.Path.{_≡_, sym, ap}
 use Prim.Native.Nat.{ℕ, _+_, _-_, _*_}
 use native.Mathlib.Omega.{arith}
 use borrow.Author.Needs.{needs}
-use Rattle.retrieval.specs.Sheet.{Adds}
-use Rattle.retrieval.specs.Shown.{Showing, stored-within, rounds-within}
+use Rattle.retrieval.specs.Shown.{stored-within, rounds-within}
 use Rattle.retrieval.proofs.shown.add_block.Statement.{statement}
 use Rattle.retrieval.proofs.shown.add_block.Tie as tie
 

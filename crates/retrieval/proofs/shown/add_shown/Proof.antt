@@ -4,8 +4,7 @@ use mathlib.Core.Path.{_≡_}
 use Prim.Native.Nat.{_≤_, _+_, _-_}
 use native.Mathlib.Omega.{arith}
 use borrow.Author.Needs.{needs}
-use Rattle.retrieval.specs.Sheet.{Adds}
-use Rattle.retrieval.specs.Shown.{Added, Showing, none-added, before, joined}
+use Rattle.retrieval.specs.Shown.{Added, none-added, before, joined}
 use Rattle.retrieval.proofs.shown.add_shown.Statement.{statement}
 use Rattle.retrieval.proofs.shown.add_shown.Tie as tie
 

@@ -1,7 +1,6 @@
 -- `retrieval::shown::add_sizes` meets its contract. The invariant: what the film holds from its round m + j on has been added, and
 -- nothing is carried from there. The measure is j. Assumes nothing.
 use mathlib.Core.Path.{_≡_}
-use mathlib.Core.List.{List}
 use Prim.Native.Nat.{ℕ, _≤_, _<_, _-_, _+_, _*_}
 use native.Mathlib.Omega.{arith}
 use borrow.Author.Needs.{needs}

@@ -3,7 +3,7 @@ use mathlib.Core.Path.{_≡_, ap}
 use Prim.Native.Nat.{ℕ, _+_, _-_, _*_}
 use native.Mathlib.Omega.{arith}
 use borrow.Author.Needs.{needs}
-use Rattle.retrieval.specs.Shown.{CarriedTo, stored-within, sizes-within}
+use Rattle.retrieval.specs.Shown.{stored-within, sizes-within}
 use Rattle.retrieval.proofs.shown.carry_block.Statement.{statement}
 use Rattle.retrieval.proofs.shown.carry_block.Tie as tie
 

@@ -5,9 +5,7 @@ use mathlib.Core.Path.{_≡_, sym, _∙_}
 use Prim.Native.Nat.{ℕ, _≤_, _<_, _+_, _-_, _*_}
 use native.Mathlib.Omega.{arith}
 use borrow.Author.Needs.{needs}
-use lib.ListN.{drop}
 use Rattle.films.specs.Sizes.{sizes}
-use Rattle.retrieval.specs.Carry.{carry}
 use Rattle.retrieval.specs.Stored.{length-sizes, sizes-at, size-small, turn-held, turn-carry, held-bound}
 use Rattle.retrieval.specs.Shown.{CarriedTo, reserve-less}
 use Rattle.retrieval.proofs.shown.carry_more.Statement.{statement}

@@ -1,12 +1,10 @@
 -- `retrieval::shown::carry_rounds` meets its contract. The invariant: left is the carry of the sizes from i + j on. The measure is j.
 -- Assumes nothing.
 use mathlib.Core.Path.{_≡_, sym, _∙_}
-use Prim.Native.Nat.{ℕ, _≤_, _<_, _+_, _-_}
+use Prim.Native.Nat.{ℕ, _<_, _+_, _-_}
 use native.Mathlib.Omega.{arith}
 use borrow.Author.Needs.{needs}
-use lib.ListN.{drop}
 use Rattle.films.specs.Sizes.{sizes}
-use Rattle.retrieval.specs.Carry.{carry}
 use Rattle.retrieval.specs.Stored.{length-sizes, sizes-at, size-small, turn-held, turn-carry, held-bound}
 use Rattle.retrieval.specs.Shown.{CarriedTo}
 use Rattle.retrieval.proofs.shown.carry_rounds.Statement.{statement}

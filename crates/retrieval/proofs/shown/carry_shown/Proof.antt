@@ -4,9 +4,7 @@ use mathlib.Core.Path.{_≡_, sym}
 use Prim.Native.Nat.{_≤_, _+_, _-_}
 use native.Mathlib.Omega.{arith}
 use borrow.Author.Needs.{needs}
-use lib.ListN.{drop}
 use Rattle.films.specs.Sizes.{sizes}
-use Rattle.retrieval.specs.Carry.{carry}
 use Rattle.retrieval.specs.Stored.{length-sizes, drop-all}
 use Rattle.retrieval.specs.Shown.{CarriedTo}
 use Rattle.retrieval.proofs.shown.carry_shown.Statement.{statement}

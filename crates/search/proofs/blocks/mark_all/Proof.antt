@@ -1,6 +1,6 @@
 -- `search::blocks::mark_all` meets its contract. The invariant: the first k blocks are marked rightly. The measure is what is left of the
 -- list of marks. Assumes nothing.
-use Prim.Native.Nat.{ℕ, _-_, _≤_}
+use Prim.Native.Nat.{_-_, _≤_}
 use mathlib.Core.Path.{_≡_}
 use native.Mathlib.Omega.{arith}
 use borrow.Author.Needs.{needs}

@@ -1,17 +1,15 @@
 -- `search::cabs::fill` meets its contract. The invariant: the first m places tell what the rows before i tell. The measure is what is left
 -- of the count. Assumes nothing.
-use Prim.Native.Nat.{ℕ, _+_, _-_, _*_, _<_, _≤_}
-use mathlib.Core.Path.{_≡_, refl, sym, ap, _∙_}
+use Prim.Native.Nat.{_-_, _≤_}
+use mathlib.Core.Path.{_≡_, sym, ap, _∙_}
 use native.Mathlib.Omega.{arith}
-use lib.ListN.{length, take, drop, getD, set}
+use lib.ListN.{length, take}
 use borrow.Author.Needs.{needs}
-use mathlib.Core.Path.{_≡_, refl, sym, ap, _∙_}
+use mathlib.Core.Path.{_≡_, sym, ap, _∙_}
 use lib.ListN.{length-set}
-use Rattle.limits.specs.Bounds.{maxBookings}
-use Rattle.load.specs.Stream.{noStream, endOf}
-use Rattle.load.specs.declared.stream.Stream.{Stream}
+use Rattle.load.specs.Stream.{endOf}
 use Rattle.table.specs.Streams.{streams, streams-length, streams-at}
-use Rattle.search.specs.CabLaws.{shares, shares-most, ends-at, Columns, columns-none, columns-next}
+use Rattle.search.specs.CabLaws.{shares-most, ends-at, Columns, columns-none, columns-next}
 use Rattle.search.proofs.cabs.fill.Statement.{statement}
 use Rattle.search.proofs.cabs.fill.Tie as tie
 

@@ -1,6 +1,6 @@
 -- `search::memory::all_taken` meets its contract. The invariant: the join of the first i sums is below 2^63 exactly if memory takes
 -- both parts in each of the first i rounds. The measure is what is left of the part. Assumes nothing.
-use Prim.Native.Nat.{_+_, _-_, _^_, _≤_}
+use Prim.Native.Nat.{_-_, _^_, _≤_}
 use mathlib.Core.Path.{_≡_, refl}
 use native.Mathlib.Omega.{arith}
 use borrow.Author.Needs.{needs}

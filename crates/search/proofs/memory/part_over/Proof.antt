@@ -1,5 +1,4 @@
 -- `search::memory::part_over` meets its contract: the parts tell of their rounds what the day and the stream tell. Assumes nothing.
-use Prim.Native.Nat.{_+_}
 use mathlib.Core.Path.{sym, _∙_}
 use native.Mathlib.Omega.{arith}
 use borrow.Author.Needs.{needs}

@@ -1,8 +1,9 @@
 -- `sheet::memory::held_within` meets its contract: where the answer is no, the numbers lent are put back. Assumes nothing.
 use mathlib.Core.Path.{refl, sym, subst, _∙_}
 use mathlib.Core.List.{List}
-use mathlib.Core.Bool.{false, true≢false}
+use mathlib.Core.Bool.{true≢false}
 use Prim.Native.Nat.{ℕ}
+use native.Mathlib.Omega.{arith}
 use borrow.Author.Needs.{needs}
 use Rattle.sheet.specs.Packed.{Settled}
 use Rattle.sheet.specs.PackedLaws.{settled-none}
@@ -21,7 +22,9 @@ returns c =
     (held .ensures .0, (held .ensures .1, λ z. absurd (true≢false (sym (c .if1 .taken) ∙ z))))
 
 restore-requires : tie.Need-restore-requires
-restore-requires c κs = c .before .before .before .before .before .held-day .ensures .1 .packable
+restore-requires c κs =
+    let p = c .before .before .before .before .before .held-day .ensures .1 .packable in
+    record { bits = omega (arith, p .bits); long = omega (arith, p .long) }
 
 same-length-2 : tie.Need-same-length-2
 same-length-2 c = search needs

@@ -1,17 +1,16 @@
 -- `sheet::memory::spans` meets its contract. The invariant: those of the rows before i are written. The measure is what is left of them.
 -- Assumes nothing.
-use Prim.Native.Nat.{ℕ, _+_, _-_, _*_, _<_, _≤_}
+use Prim.Native.Nat.{_-_, _≤_}
 use mathlib.Core.Path.{_≡_, refl, sym, ap, _∙_}
 use native.Mathlib.Omega.{arith}
-use lib.ListN.{length, take, drop, getD, set}
+use lib.ListN.{length}
 use borrow.Author.Needs.{needs}
 use mathlib.Core.Path.{_≡_, refl, sym, ap, _∙_}
 use lib.ListN.{length-set}
-use Rattle.limits.specs.Bounds.{maxBookings}
 use Rattle.load.specs.Basic.{Bounded}
-use Rattle.load.specs.Stream.{noStream, endOf}
+use Rattle.load.specs.Stream.{endOf}
 use Rattle.load.specs.declared.stream.Stream.{Stream}
-use Rattle.table.specs.Streams.{streams, streams-length, streams-at, each-row}
+use Rattle.table.specs.Streams.{streams, streams-at, each-row}
 use Rattle.sheet.specs.Memory.{Spans}
 use Rattle.sheet.specs.OpenLaws.{spans-none, spans-next}
 use Rattle.sheet.proofs.memory.spans.Statement.{statement}

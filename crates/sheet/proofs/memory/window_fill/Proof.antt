@@ -1,11 +1,10 @@
 -- `sheet::memory::window_fill` meets its contract. The invariant: the rows before i were added, and the carries are those from w on of
 -- them and from e on of the others. The measure is what is left of the rows. Assumes nothing.
-use mathlib.Core.Path.{_≡_, sym, _∙_}
+use mathlib.Core.Path.{sym, _∙_}
 use Prim.Native.Nat.{_+_, _-_}
 use native.Mathlib.Omega.{arith}
 use borrow.Author.Needs.{needs}
 use lib.ListN.{set, length-set}
-use Rattle.load.specs.Stream.{noStream}
 use Rattle.table.specs.Streams.{streams, streams-length, streams-at}
 use Rattle.sheet.specs.FillLaws.{Filling, filling-none, filling-asks, filling-next, filling-asks-two, filling-two, filling-all}
 use Rattle.sheet.proofs.memory.window_fill.Statement.{statement}

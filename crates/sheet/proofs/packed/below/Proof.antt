@@ -1,7 +1,6 @@
 -- `sheet::packed::below` meets its contract: a number is its lowest bits and those above them. Assumes nothing.
-use mathlib.Core.Path.{sym}
 use Prim.Native.Nat.{_^_}
-use native.Mathlib.Nat.{mod-add-div', mod-eq-sub-div-mul}
+use native.Mathlib.Nat.{mod-add-div'}
 use native.Mathlib.Omega.{arith}
 use borrow.Author.Needs.{needs}
 use Rattle.sheet.specs.Packed.{lower}

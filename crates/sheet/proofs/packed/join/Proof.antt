@@ -1,7 +1,6 @@
 -- `sheet::packed::join` meets its contract. The invariant: none of the first i places exceeds what is joined. The measure is what is left
 -- of the n. Assumes nothing.
-use mathlib.Core.Path.{_≡_}
-use Prim.Native.Nat.{ℕ, _+_, _-_, _≤_, _<_}
+use Prim.Native.Nat.{ℕ, _-_, _≤_, _<_}
 use native.Mathlib.Omega.{arith}
 use borrow.Author.Count.{below-more}
 use borrow.Author.Needs.{needs}

@@ -1,7 +1,7 @@
 -- `sheet::packed::put_places` meets its contract. The invariant: the first i places of the window are added, and the others are as they
 -- were. The measure is what is left of the n. Assumes nothing.
 use mathlib.Core.Path.{_≡_, ap, subst, _∙_}
-use Prim.Native.Nat.{ℕ, _+_, _-_, _*_, _^_, _≤_}
+use Prim.Native.Nat.{ℕ, _+_, _-_, _≤_}
 use native.Mathlib.Omega.{arith}
 use borrow.Author.Needs.{needs}
 use lib.ListN.{length, getD, set}

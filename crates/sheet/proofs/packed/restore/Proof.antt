@@ -30,7 +30,7 @@ slice-read-below c =
     omega (arith, ap length (l .inv .1), length-front (lower (a .packed .bits)) (l .i) (a .list .now), c .before .before .before .before .before .pre .long)
 
 below-requires : tie.Need-below-requires Inv-loop μ-loop
-below-requires c κs = c .before .before .before .before .before .pre .bits
+below-requires c κs = omega (arith, c .before .before .before .before .before .pre .bits)
 
 mul-list : tie.Need-mul-list Inv-loop μ-loop
 mul-list c = search needs

@@ -1,5 +1,4 @@
 -- `sheet::packed::settle_gap` meets its contract. Assumes nothing.
-use native.Mathlib.Omega.{arith}
 use borrow.Author.Needs.{needs}
 use Rattle.sheet.specs.PackedLaws.{ready-less, gap-compared}
 use Rattle.sheet.proofs.packed.settle_gap.Statement.{statement}

@@ -1,5 +1,4 @@
 -- `sheet::packed::settle_window` meets its contract. Assumes nothing.
-use mathlib.Core.Path.{refl, sym}
 use Prim.Native.Nat.{_+_}
 use native.Mathlib.Omega.{arith}
 use borrow.Author.Needs.{needs}

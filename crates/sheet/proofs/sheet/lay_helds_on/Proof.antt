@@ -1,14 +1,12 @@
 -- `sheet::sheet::lay_helds_on` meets its contract. The invariant: what the first i rows hold stands in the list. The measure is what is left
 -- of the rows. Assumes nothing.
-use Prim.Native.Nat.{ℕ, _+_, _-_, _*_, _<_, _≤_}
-use mathlib.Core.Path.{_≡_, refl, sym, ap, _∙_}
+use Prim.Native.Nat.{_-_, _≤_}
+use mathlib.Core.Path.{_≡_, sym, _∙_}
 use native.Mathlib.Omega.{arith}
-use lib.ListN.{length, take, drop, getD, set}
+use lib.ListN.{length}
 use borrow.Author.Needs.{needs}
-use mathlib.Core.Path.{_≡_, refl, sym, ap, _∙_}
-use Rattle.limits.specs.Bounds.{maxBookings}
-use Rattle.load.specs.Stream.{noStream}
-use Rattle.table.specs.Streams.{streams, streams-length, streams-at, each-row}
+use mathlib.Core.Path.{_≡_, sym, _∙_}
+use Rattle.table.specs.Streams.{streams, streams-length, streams-at}
 use Rattle.sheet.specs.HeldLaws.{HeldsLaid, helds-none, row-playable, row-within, helds-asks, helds-next}
 use Rattle.sheet.proofs.sheet.lay_helds_on.Statement.{statement}
 use Rattle.sheet.proofs.sheet.lay_helds_on.Tie as tie

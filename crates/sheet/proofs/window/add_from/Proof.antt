@@ -1,6 +1,5 @@
 -- `sheet::window::add_from` meets its contract: the rounds from m on, and then those before them. Assumes nothing.
 use Prim.Native.Nat.{_-_}
-use native.Mathlib.Omega.{arith}
 use borrow.Author.Needs.{needs}
 use Rattle.laws.specs.Parts.{tail-part, tail-back}
 use Rattle.sheet.specs.Two.{tail-asks, head-length, head-asks, parts-added}

@@ -1,5 +1,4 @@
 -- `sheet::window::add_shown` meets its contract: both streams' rounds are runs that show. Assumes nothing.
-use mathlib.Core.Path.{sym}
 use native.Mathlib.Omega.{arith}
 use borrow.Author.Needs.{needs}
 use Rattle.sheet.specs.Two.{both-asks, added-both}

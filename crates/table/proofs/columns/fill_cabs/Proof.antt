@@ -1,9 +1,8 @@
 -- `table::columns::fill_cabs` meets its contract. The invariant: the cabs of the first i rows are written. The measure is what is left of
 -- the rows. Assumes nothing.
-use Prim.Native.Nat.{ℕ, _+_, _-_, _*_, _<_, _≤_}
-use mathlib.Core.Path.{_≡_, refl, sym, ap, _∙_}
+use Prim.Native.Nat.{_-_, _≤_}
+use mathlib.Core.Path.{_≡_, ap}
 use native.Mathlib.Omega.{arith}
-use lib.ListN.{length, take, drop, getD, set}
 use borrow.Author.Needs.{needs}
 use Rattle.table.specs.Columns.{Filled, filled-none, filled-more}
 use Rattle.table.specs.Table.{streamAt}

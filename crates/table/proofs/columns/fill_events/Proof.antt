@@ -1,9 +1,8 @@
 -- `table::columns::fill_events` meets its contract. The invariant: the words of the first i rows are written. The measure is what is left of
 -- the rows. Assumes nothing.
-use Prim.Native.Nat.{ℕ, _+_, _-_, _*_, _<_, _≤_}
-use mathlib.Core.Path.{_≡_, refl, sym, ap, _∙_}
+use Prim.Native.Nat.{_-_, _≤_}
+use mathlib.Core.Path.{_≡_, ap, _∙_}
 use native.Mathlib.Omega.{arith}
-use lib.ListN.{length, take, drop, getD, set}
 use borrow.Author.Needs.{needs}
 use Rattle.load.specs.Basic.{Bounded}
 use Rattle.load.specs.Stream.{endOf}

@@ -5,10 +5,9 @@ use mathlib.Core.Path.{_≡_, refl, sym, ap, _∙_}
 use Prim.Native.Nat.{_≤_, _-_}
 use native.Mathlib.Omega.{arith}
 use borrow.Author.Tests.{not-true, not-false}
-use lib.ListN.{length, take}
+use lib.ListN.{take}
 use lib.Seq.{slice}
 use Rattle.laws.specs.Tests.{all}
-use Rattle.limits.specs.Bounds.{maxBookings}
 use Rattle.load.specs.Basic.{basicOf}
 use Rattle.load.specs.Lists.{all-no, all-next, all-end}
 use Rattle.load.specs.Stream.{noStream}

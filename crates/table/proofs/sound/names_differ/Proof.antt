@@ -1,6 +1,6 @@
 -- `table::sound::names_differ` meets its contract: the column lent is that of the names. Assumes nothing.
 use borrow.Author.Needs.{needs}
-use mathlib.Core.Path.{_≡_, sym, _∙_}
+use mathlib.Core.Path.{_∙_}
 use native.Mathlib.Omega.{arith}
 use Rattle.table.specs.Columns.{filled-count}
 use Rattle.table.specs.RowLaws.{names-tabled}

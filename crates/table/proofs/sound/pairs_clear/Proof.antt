@@ -1,7 +1,6 @@
 -- `table::sound::pairs_clear` meets its contract: the columns lent are those of the rows. Assumes nothing.
 use borrow.Author.Needs.{needs}
-use mathlib.Core.Path.{_≡_, sym, _∙_}
-use native.Mathlib.Omega.{arith}
+use mathlib.Core.Path.{_∙_}
 use Rattle.table.specs.Columns.{filled-count}
 use Rattle.table.specs.RowLaws.{cab-columns, cabs-lent}
 use Rattle.table.proofs.sound.pairs_clear.Statement.{statement}
