@@ -1,12 +1,12 @@
 -- Turns of the loops over the entries and over the sizes. Assumes nothing.
 use Prim.Native.Nat.{ℕ, zero, suc, _+_, _*_, _-_, _/_, _%_, _<_, _≤_}
 use mathlib.Core.Path.{_≡_, refl, sym, ap, _∙_}
-use mathlib.Core.Bool.{Bool, true, false, true≢false, _&&_}
+use mathlib.Core.Bool.{Bool, true, false, _&&_}
 use mathlib.Core.List.{List, [], _∷_, _++_}
 use native.Mathlib.Omega.{arith}
 use native.Mathlib.Numerals.{add-one}
 use native.Mathlib.Decide.{decLe}
-use borrow.Author.Tests.{leb-true, le-leb, lt-leb, eq-eqb, ne-eqb}
+use borrow.Author.Tests.{le-leb, lt-leb, eq-eqb, ne-eqb}
 use lib.ListN.{getD, set, replicate}
 use lib.Seq.{set-at, append-snoc}
 use lib.Dec.{leb, eqb, leb·zero}
@@ -14,7 +14,7 @@ use lib.Bits.{bitOr, or-add-and, and-le-l, and-le-r, or-lt, or-zero-l, or-shr, o
 use Rattle.laws.specs.Questions.{Question, refusal, refusal-stands}
 use Rattle.limits.specs.Bounds.{maxFilms, maxSize}
 use Rattle.limits.specs.Refusals.{filmOrder, roundCount}
-use Rattle.films.specs.Sizes.{size, FourBytes}
+use Rattle.films.specs.Sizes.{size}
 use Rattle.films.specs.Span.{span, length-span, span-more}
 use Rattle.films.specs.Questions.{entryNumber, entryRounds, exceeds, fewRounds, entryQuestions, smallSizes}
 use Rattle.films.specs.Catalogue.{places, entryAnswer}
@@ -110,10 +110,6 @@ and-true : (a : Bool) → a && true ≡ a
 and-true true = refl
 and-true false = refl
 
-both-true : (a b : Bool) → a && b ≡ true → (a ≡ true) × (b ≡ true)
-both-true true b e = (refl, e)
-both-true false b e = absurd (true≢false (sym e))
-
 and-assoc : (a b c : Bool) → (a && b) && c ≡ a && (b && c)
 and-assoc true b c = refl
 and-assoc false b c = refl
@@ -160,60 +156,42 @@ or-second a b = rw (or-shr a b 8, or-mod (a / 256) (b / 256) 8) (go (secondByte 
         let m : suc x ≡ 0 → ⊥ = λ e. omega arith in
         rw (ne-eqb _ _ l, ne-eqb _ _ m)
 
--- a size is within the bound if its top byte is 0 and the byte before it is one: so its first two are
-abbrev pub LowBytes : List ℕ → ℕ → Type 0
-LowBytes s at = getD s (at + 2) 0 < 256 → getD s (at + 3) 0 ≡ 0 → size s at ≤ maxSize
-
--- the word from the middle of a size on tells it of the next size
-low-bytes : (s : List ℕ) (at : ℕ) → FourBytes s (at + 2) → LowBytes s (at + 4)
-low-bytes s at h m t =
-    let e : at + 2 + 2 ≡ at + 4 = omega arith in
-    let f : at + 2 + 3 ≡ at + 4 + 1 = omega arith in
-    omega (arith, rw e at (h .third), rw f at (h .fourth))
-
--- and whether its own is within the bound
-middle-small : (s : List ℕ) (at x : ℕ) → LowBytes s at → x ≡ size s (at + 2) → FourBytes s (at + 2) → leb (size s at) maxSize ≡ eqb (secondByte x) 0
-middle-small s at x l e h = go (decLe (size s at) maxSize)
+-- the word from the middle of a size on tells whether it is within the bound
+middle-small : (s : List ℕ) (at x : ℕ) → ((k : ℕ) → getD s k 0 < 256) → x ≡ size s (at + 2) → leb (size s at) maxSize ≡ eqb (secondByte x) 0
+middle-small s at x b e = go (decLe (size s at) maxSize)
   where
     top : secondByte x ≡ getD s (at + 3) 0
-    top =
-        let f : at + 2 + 1 ≡ at + 3 = omega arith in
-        let b = rw f at (h .second) in
-        omega (arith, h .first, rw f at e)
+    top = let f : at + 2 + 1 ≡ at + 3 = omega arith in omega (arith, b (at + 2), b (at + 3), rw f at e)
 
     go : Dec (size s at ≤ maxSize) → leb (size s at) maxSize ≡ eqb (secondByte x) 0
     go (yes p) = let z : secondByte x ≡ 0 = omega (arith, top) in rw (le-leb _ _ p, eq-eqb _ _ z)
     go (no p) =
-        let z : secondByte x ≡ 0 → ⊥ = λ q. p (l (h .first) (omega (arith, top))) in
+        let z : secondByte x ≡ 0 → ⊥ = λ q. omega (arith, top, b at, b (at + 1), b (at + 2)) in
         let m : maxSize < size s at = omega arith in
         rw (lt-leb _ _ m, ne-eqb _ _ z)
 
-pub middle-none : (s : List ℕ) (from n : ℕ) → size s from ≤ maxSize
-    → (smallSizes s from n ≡ eqb (secondByte 0) 0 && smallSizes s (from + 4 * 0) (n - 0)) × LowBytes s (from + 4 * 0)
-middle-none s from n h =
+pub middle-none : (s : List ℕ) (from n : ℕ) → smallSizes s from n ≡ eqb (secondByte 0) 0 && smallSizes s (from + 4 * 0) (n - 0)
+middle-none s from n =
     let a : from + 4 * 0 ≡ from = omega arith in
     let b : n - 0 ≡ n = omega arith in
-    (rw (a, b), rw a (λ m t. h))
+    rw (a, b)
 
 -- one middle more among those joined
-pub middle-next : (s : List ℕ) (from n i joined x : ℕ) → i < n → LowBytes s (from + 4 * i) → x ≡ size s (from + 2 + 4 * i) → FourBytes s (from + 2 + 4 * i)
-    → (eqb (secondByte joined) 0 && smallSizes s (from + 4 * i) (n - i)
-    ≡ eqb (secondByte (bitOr joined x)) 0 && smallSizes s (from + 4 * (i + 1)) (n - (i + 1)))
-    × LowBytes s (from + 4 * (i + 1))
-middle-next s from n i joined x h l e w =
+pub middle-next : (s : List ℕ) (from n i joined x : ℕ) → ((k : ℕ) → getD s k 0 < 256) → i < n → x ≡ size s (from + 2 + 4 * i)
+    → eqb (secondByte joined) 0 && smallSizes s (from + 4 * i) (n - i)
+    ≡ eqb (secondByte (bitOr joined x)) 0 && smallSizes s (from + 4 * (i + 1)) (n - (i + 1))
+middle-next s from n i joined x b h e =
     let z : n - i ≡ suc (n - (i + 1)) = omega arith in
     let f : from + 4 * i + 4 ≡ from + 4 * (i + 1) = omega arith in
     let g : from + 2 + 4 * i ≡ from + 4 * i + 2 = omega arith in
-    let own = middle-small s (from + 4 * i) x l (rw g at e) (rw g at w) in
+    let own = middle-small s (from + 4 * i) x b (rw g at e) in
     let rest = smallSizes s (from + 4 * (i + 1)) (n - (i + 1)) in
-    let t = eqb (secondByte joined) 0 in (
-      ap (λ k. t && smallSizes s (from + 4 * i) k) z
-          ∙ ap (λ at. t && (leb (size s (from + 4 * i)) maxSize && smallSizes s at (n - (i + 1)))) f
-          ∙ ap (λ y. t && (y && rest)) own
-          ∙ sym (and-assoc t (eqb (secondByte x) 0) rest)
-          ∙ ap (λ b. b && rest) (sym (or-second joined x)),
-      rw f at (low-bytes s (from + 4 * i) (rw g at w)),
-    )
+    let t = eqb (secondByte joined) 0 in
+    ap (λ k. t && smallSizes s (from + 4 * i) k) z
+    ∙ ap (λ at. t && (leb (size s (from + 4 * i)) maxSize && smallSizes s at (n - (i + 1)))) f
+    ∙ ap (λ y. t && (y && rest)) own
+    ∙ sym (and-assoc t (eqb (secondByte x) 0) rest)
+    ∙ ap (λ c. c && rest) (sym (or-second joined x))
 
 pub middle-end : (s : List ℕ) (at n i joined : ℕ) → n ≤ i → eqb (secondByte joined) 0 && smallSizes s at (n - i) ≡ eqb (secondByte joined) 0
 middle-end s at n i joined h =
@@ -235,29 +213,15 @@ small-parts s from (suc a) b =
     ∙ sym (and-assoc (leb (size s from) maxSize) (smallSizes s (from + 4) a) (smallSizes s (from + 4 + 4 * a) b))
     ∙ ap (λ at. (leb (size s from) maxSize && smallSizes s (from + 4) a) && smallSizes s at b) e)
 
-module _ (s : List ℕ) (from n k : ℕ) (h : k < n) where
-  -- the first k and one are among the n
-  pub first-large : smallSizes s from (k + 1) ≡ false → smallSizes s from n ≡ false
-  first-large e =
-      let z : n ≡ k + 1 + (n - (k + 1)) = omega arith in
-      rw z (small-parts s from (k + 1) (n - (k + 1)) ∙ rw e)
-
-  -- where they are within the bound, the one is, and all are exactly if those from it on are
-  module _ (e : smallSizes s from (k + 1) ≡ true) where
-    parts : (smallSizes s from k ≡ true) × (leb (size s (from + 4 * k)) maxSize ≡ true)
-    parts = both-true (smallSizes s from k) (leb (size s (from + 4 * k)) maxSize) (ap (λ t. smallSizes s from k && t) (sym (and-true _)) ∙ sym (small-parts s from k 1) ∙ e)
-
-    pub one-small : size s (from + 4 * k) ≤ maxSize
-    one-small = leb-true _ _ (parts .1)
-
-    pub rest-small : smallSizes s from n ≡ smallSizes s (from + 4 * k) (n - 1 - k) && smallSizes s (from + 4 * (n - 1)) 1
-    rest-small =
-        let z : n ≡ k + (n - 1 - k + 1) = omega arith in
-        let f : from + 4 * k + 4 * (n - 1 - k) ≡ from + 4 * (n - 1) = omega arith in
-        ap (smallSizes s from) z ∙ small-parts s from k (n - 1 - k + 1)
-        ∙ ap (λ t. t && smallSizes s (from + 4 * k) (n - 1 - k + 1)) (parts .0)
-        ∙ small-parts s (from + 4 * k) (n - 1 - k) 1
-        ∙ ap (λ at. smallSizes s (from + 4 * k) (n - 1 - k) && smallSizes s at 1) f
+-- the first k of n, those after them but for the last, and the last
+pub small-split : (s : List ℕ) (from n k : ℕ) → k < n
+    → smallSizes s from n ≡ smallSizes s from k && (smallSizes s (from + 4 * k) (n - 1 - k) && smallSizes s (from + 4 * (n - 1)) 1)
+small-split s from n k h =
+    let z : n ≡ k + (n - 1 - k + 1) = omega arith in
+    let f : from + 4 * k + 4 * (n - 1 - k) ≡ from + 4 * (n - 1) = omega arith in
+    ap (smallSizes s from) z ∙ small-parts s from k (n - 1 - k + 1)
+    ∙ ap (λ t. smallSizes s from k && t)
+    (small-parts s (from + 4 * k) (n - 1 - k) 1 ∙ ap (λ at. smallSizes s (from + 4 * k) (n - 1 - k) && smallSizes s at 1) f)
 
 -- ---- the places of a catalogue
 

@@ -1,19 +1,12 @@
 -- Sizes where they stand in a file: four bytes each, least significant first.
 use mathlib.Core.List.{List, [], _∷_}
-use Prim.Native.Nat.{ℕ, zero, suc, _+_, _*_, _≤_, _<_}
+use Prim.Native.Nat.{ℕ, zero, suc, _+_, _*_, _≤_}
 use lib.ListN.{length, getD}
 use Rattle.limits.specs.Bounds.{maxRounds, maxSize}
 
 -- the size whose bytes start at an offset
 abbrev pub size : List ℕ → ℕ → ℕ
 size s at = getD s at 0 + 256 * getD s (at + 1) 0 + 65536 * getD s (at + 2) 0 + 16777216 * getD s (at + 3) 0
-
--- the four numbers from an offset on are bytes
-pub record FourBytes (s : List ℕ) (at : ℕ) : Type 0 where
-  pub first : getD s at 0 < 256
-  pub second : getD s (at + 1) 0 < 256
-  pub third : getD s (at + 2) 0 < 256
-  pub fourth : getD s (at + 3) 0 < 256
 
 -- the n sizes whose bytes start at an offset
 abbrev pub sizes : List ℕ → ℕ → ℕ → List ℕ

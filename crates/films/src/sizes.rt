@@ -3,10 +3,8 @@ ghost use mathlib.Core.Path.{_≡_};
 ghost use Prim.Native.Nat.{_+_, _*_, _≤_};
 ghost use lib.ListN.{length};
 ghost use Rattle.laws.specs.Questions.{refusal};
-ghost use Rattle.limits.specs.Bounds.{maxFilms, maxRounds, maxSize};
-ghost use Rattle.films.specs.Sizes.{size};
+ghost use Rattle.limits.specs.Bounds.{maxFilms, maxRounds};
 ghost use Rattle.films.specs.Questions.{filmsIn, roundsBefore, smallSizes, sizeQuestions};
-use crate::words::four_bytes_at;
 use crate::words::size_at;
 use crate::words::word_at;
 use limits::bounds::MAX_SIZE;
@@ -32,16 +30,16 @@ fn join_small(file: &[u8], from: usize, n: usize) -> bool
     joined <= MAX_SIZE as u32
 }
 
-// `join_small` of n sizes, the first of which is within the bound, with words that begin in the middle of a size: of each word the
-// second byte is the top byte of the size, which is within the bound exactly if that byte is 0.
+// `join_small` with words that begin in the middle of a size: of each word the second byte is the top byte of the size, which is
+// within the bound exactly if that byte is 0. After the last size there are two bytes more.
 fn middles_small(file: &[u8], from: usize, n: usize) -> bool
-    requires { ⌜ (from + 4 * n + 2 ≤ length (now file)) × (size (now file) from ≤ maxSize) ⌝ }
+    requires { ⌜ from + 4 * n + 2 ≤ length (now file) ⌝ }
     ensures { λ r. ⌜ r ≡ smallSizes (now (file .entry)) from n ⌝ }
 {
     let mut joined: u32 = 0;
     let mut i = 0;
     while i < n {
-        joined = joined | four_bytes_at(file, from + 2 + 4 * i);
+        joined = joined | word_at(file, from + 2 + 4 * i);
         i += 1;
     }
     joined / 256 % 256 == 0
@@ -58,7 +56,7 @@ fn small(file: &[u8], from: usize, n: usize) -> bool
     }
     let first = 3 - (from + 1) % 16 / 4;
     let last = n - 1;
-    if !join_small(file, from, first + 1) {
+    if !join_small(file, from, first) {
         return false;
     }
     if !middles_small(file, from + 4 * first, last - first) {

@@ -3,7 +3,7 @@ ghost use mathlib.Core.Path.{_≡_};
 ghost use Prim.Native.Nat.{_+_, _<_, _≤_};
 ghost use lib.ListN.{length};
 ghost use Rattle.films.specs.Questions.{half};
-ghost use Rattle.films.specs.Sizes.{size, FourBytes};
+ghost use Rattle.films.specs.Sizes.{size};
 
 fn wide16(x: u8) -> u16
     ensures { λ r. ⌜ (r ≡ x) × (r < 256) ⌝ }
@@ -25,23 +25,15 @@ pub(crate) fn half_at(file: &[u8], at: usize) -> u16
     wide16(file[at]) + 256 * wide16(file[at + 1])
 }
 
-// The 32 bits at an offset, and that they are four bytes.
-pub(crate) fn four_bytes_at(file: &[u8], at: usize) -> u32
-    requires { ⌜ at + 4 ≤ length (now file) ⌝ }
-    ensures { λ r. ⌜ (r ≡ size (now (file .entry)) at) × FourBytes (now (file .entry)) at ⌝ }
-{
-    wide32(file[at])
-        + 256 * wide32(file[at + 1])
-        + 65536 * wide32(file[at + 2])
-        + 16777216 * wide32(file[at + 3])
-}
-
 // The 32 bits at an offset.
 pub fn word_at(file: &[u8], at: usize) -> u32
     requires { ⌜ at + 4 ≤ length (now file) ⌝ }
     ensures { λ r. ⌜ r ≡ size (now (file .entry)) at ⌝ }
 {
-    four_bytes_at(file, at)
+    wide32(file[at])
+        + 256 * wide32(file[at + 1])
+        + 65536 * wide32(file[at + 2])
+        + 16777216 * wide32(file[at + 3])
 }
 
 // The size at an offset: 32 bits.

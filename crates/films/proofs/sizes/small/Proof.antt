@@ -1,5 +1,5 @@
--- `films::sizes::small` meets its contract: the sizes before the one whose middle is at a multiple of 16 and this one, those from it
--- on up to the last but one, and the last. Assumes nothing.
+-- `films::sizes::small` meets its contract: the sizes before the one whose middle is at a multiple of 16, those from it on up to the
+-- last but one, and the last. Assumes nothing.
 use Prim.Native.Nat.{_+_, _*_, _-_, _/_, _%_}
 use mathlib.Core.Path.{sym, ap, _∙_}
 use mathlib.Core.Bool.{_&&_}
@@ -7,7 +7,7 @@ use native.Mathlib.Omega.{arith}
 use borrow.Author.Needs.{needs}
 use borrow.Author.Tests.{not-true, not-false}
 use Rattle.films.specs.Questions.{smallSizes}
-use Rattle.films.proofs.Laws.{first-large, one-small, rest-small}
+use Rattle.films.proofs.Laws.{small-split}
 use Rattle.films.proofs.sizes.small.Statement.{statement}
 use Rattle.films.proofs.sizes.small.Tie as tie
 
@@ -26,9 +26,6 @@ sub-first c = search needs
 sub-last : tie.Need-sub-last
 sub-last c = search needs
 
-add-join-small : tie.Need-add-join-small
-add-join-small c = search needs
-
 join-small-requires-2 : tie.Need-join-small-requires-2
 join-small-requires-2 c κs = search needs
 
@@ -36,7 +33,7 @@ returns-2 : tie.Need-returns-2
 returns-2 c =
     let a = c .before .before .before .before .args in
     let first = 3 - (a .from + 1) % 16 / 4 in
-    sym (first-large (a .file .now) (a .from) (a .n) first (omega arith) (sym (c .before .join-small2 .ensures) ∙ not-true _ (c .if2 .taken)))
+    sym (small-split (a .file .now) (a .from) (a .n) first (omega arith) ∙ rw (sym (c .before .join-small2 .ensures) ∙ not-true _ (c .if2 .taken)))
 
 mul-middles-small : tie.Need-mul-middles-small
 mul-middles-small c = search needs
@@ -48,25 +45,21 @@ sub-middles-small : tie.Need-sub-middles-small
 sub-middles-small c = search needs
 
 middles-small-requires : tie.Need-middles-small-requires
-middles-small-requires c κs =
-    let a = c .before .before .before .before .args in
-    let first = 3 - (a .from + 1) % 16 / 4 in (
-      omega (arith, c .before .before .before .before .pre),
-      one-small (a .file .now) (a .from) (a .n) first (omega arith) (sym (c .before .join-small2 .ensures) ∙ not-false _ (c .if2 .left)),
-    )
+middles-small-requires c κs = omega (arith, c .before .before .before .before .pre)
 
 returns-3 : tie.Need-returns-3
 returns-3 c =
     let a = c .before .before .before .before .before .before .args in
     let first = 3 - (a .from + 1) % 16 / 4 in
-    let all = rest-small (a .file .now) (a .from) (a .n) first (omega arith) (sym (c .before .before .before .join-small2 .ensures) ∙ not-false _ (c .before .before .if2 .left)) in
-    sym (all ∙ ap (λ t. t && smallSizes (a .file .now) (a .from + 4 * (a .n - 1)) 1) (sym (c .before .middles-small .ensures) ∙ not-true _ (c .if3 .taken)))
+    sym
+    (small-split (a .file .now) (a .from) (a .n) first (omega arith)
+    ∙ rw (sym (c .before .before .before .join-small2 .ensures) ∙ not-false _ (c .before .before .if2 .left), sym (c .before .middles-small .ensures) ∙ not-true _ (c .if3 .taken)))
 
 mul-join-small : tie.Need-mul-join-small
 mul-join-small c = search needs
 
-add-join-small-2 : tie.Need-add-join-small-2
-add-join-small-2 c = search needs
+add-join-small : tie.Need-add-join-small
+add-join-small c = search needs
 
 join-small-requires-3 : tie.Need-join-small-requires-3
 join-small-requires-3 c κs = search needs
@@ -75,9 +68,10 @@ returns-4 : tie.Need-returns-4
 returns-4 c =
     let a = c .before .before .before .before .before .before .before .args in
     let first = 3 - (a .from + 1) % 16 / 4 in
-    let all = rest-small (a .file .now) (a .from) (a .n) first (omega arith) (sym (c .before .before .before .before .join-small2 .ensures) ∙ not-false _ (c .before .before .before .if2 .left)) in
     c .join-small3 .ensures
-    ∙ sym (all ∙ ap (λ t. t && smallSizes (a .file .now) (a .from + 4 * (a .n - 1)) 1) (sym (c .before .before .middles-small .ensures) ∙ not-false _ (c .before .if3 .left)))
+    ∙ sym
+    (small-split (a .file .now) (a .from) (a .n) first (omega arith)
+    ∙ rw (sym (c .before .before .before .before .join-small2 .ensures) ∙ not-false _ (c .before .before .before .if2 .left), sym (c .before .before .middles-small .ensures) ∙ not-false _ (c .before .if3 .left)))
 
 pub small-spec : {M : Type 1} → statement M
 small-spec =
@@ -88,7 +82,6 @@ small-spec =
     add-first
     sub-first
     sub-last
-    add-join-small
     join-small-requires-2
     returns-2
     mul-middles-small
@@ -97,6 +90,6 @@ small-spec =
     middles-small-requires
     returns-3
     mul-join-small
-    add-join-small-2
+    add-join-small
     join-small-requires-3
     returns-4)
