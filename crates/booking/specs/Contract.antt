@@ -1,5 +1,6 @@
 -- What booking is to leave: the answer, the day, every record place and every place of the sheet, as the model's call says.
 use mathlib.Core.Path.{_≡_}
+use mathlib.Core.Bool.{Bool, true}
 use mathlib.Core.List.{List, _++_}
 use Prim.Native.Nat.{ℕ, _+_, _^_, _≤_, _<_}
 use lib.ListN.{length, set, take}
@@ -21,10 +22,14 @@ use Rattle.load.specs.declared.stream.Stream.{Stream}
 use Rattle.table.specs.Columns.{tableWords}
 use Rattle.table.specs.Streams.{streams}
 use Rattle.table.specs.Table.{Tabled}
+use Rattle.sheet.specs.Packed.{heldsOf, Packable, Settled}
+use Rattle.sheet.specs.declared.packed.Packed.{Packed}
 use Rattle.questions.specs.Given.{settingAt}
+use Rattle.questions.specs.Events.{Gathered}
+use Rattle.questions.specs.Listed.{Workspace}
 use Rattle.questions.specs.ListSound.{StreamsOf}
 use Rattle.questions.specs.Numbers.{standingAsks}
-use Rattle.questions.specs.SheetOf.{SheetKept}
+use Rattle.questions.specs.SheetOf.{SheetKept, HeldKept}
 use Rattle.booking.specs.Own.{requestOf}
 
 pub record Leaves (S : Setting) (out : Calls.Outcome) (a : Answer) (d : Day) (bs : List Booking) (o r h : List ℕ) : Type 0 where
@@ -106,4 +111,28 @@ pub record Bookable (f : List ℕ) (day : Day) (places : ℕ) (table o r h : Lis
 pub record Books (f : List ℕ) (day : Day) (places : ℕ) (q : Request) (table o r h : List ℕ) (a : Answer) (o′ r′ h′ : List ℕ) : Type 0 where
   pub leaves : (rows : List Booking) → KeptFor f day rows places table o r h
       → Leaves (settingAt f day) (Calls.bookCall (settingAt f day) (stateOf day rows places o r h) q) a (dayBooked day a) (rowsBooked day rows q a) o′ r′ h′
+  pub recordable : (s : ℕ) → a ≡ Booked s → Recordable day q s
+
+-- the questions before booking's own have passed of these records, the table is theirs and the rounds in which they open and end are
+-- gathered; l is a list by round that has, packed so with the numbers lent, if `same` what they hold
+pub record Passes (f : List ℕ) (day : Day) (rows : List Booking) (places : ℕ) (table opened closed : List ℕ) (same : Bool) (p : Packed)
+    (o r l : List ℕ) : Type 0 where
+  pub full : length rows ≡ maxBookings
+  pub asks : refusal (standingAsks f day rows places (length o) (length r) (length l)) ≡ 0
+  pub tabled : Tabled (catalogueOf f) (take (day .count) rows) table
+  pub workspace : Workspace table opened closed
+  pub events : Gathered (streams table) (day .count) opened closed
+  pub held : same ≡ true → HeldKept (settingAt f day) (take (day .count) rows) (heldsOf p l)
+  pub packable : Packable p l
+
+-- so it is with some records
+pub record SomePass (f : List ℕ) (day : Day) (places : ℕ) (table opened closed : List ℕ) (same : Bool) (p : Packed) (o r l : List ℕ) : Type 0 where
+  pub rows : List Booking
+  pub pass : Passes f day rows places table opened closed same p o r l
+
+-- the request is answered: whatever records have passed and whatever numbers were lent, answer and sheet are the model's
+pub record BooksLent (f : List ℕ) (day : Day) (places : ℕ) (q : Request) (table opened closed : List ℕ) (same : Bool) (p : Packed) (o r l : List ℕ)
+    (a : Answer) (o′ r′ h′ : List ℕ) : Type 0 where
+  pub leaves : (rows : List Booking) (lent : List ℕ) → Passes f day rows places table opened closed same p o r l → Settled p (day .rounds) lent l
+      → Leaves (settingAt f day) (Calls.bookCall (settingAt f day) (stateOf day rows places o r lent) q) a (dayBooked day a) (rowsBooked day rows q a) o′ r′ h′
   pub recordable : (s : ℕ) → a ≡ Booked s → Recordable day q s

@@ -4,3 +4,4 @@ pub mod Own
 pub mod Place
 pub mod Placed
 pub mod Placing
+pub mod CheckedLaws

@@ -28,8 +28,6 @@ use sheet::sheet::add_stream;
 use table::streams::TABLE_WORDS;
 use table::tabulate::tabulate;
 ghost use mathlib.Core.Path.{_≡_};
-ghost use mathlib.Core.Bool.{true};
-ghost use mathlib.Core.List.{List};
 ghost use Prim.Native.Nat.{ℕ, min, _≤_};
 ghost use lib.ListN.{length, take};
 ghost use Rattle.laws.specs.Questions.{refusal};
@@ -41,14 +39,10 @@ ghost use Rattle.model.specs.FirstFit.{AnswersFirst};
 ghost use Rattle.model.specs.Fit.{FitsAt};
 ghost use Rattle.questions.specs.Given.{settingAt};
 ghost use Rattle.questions.specs.Numbers.{standingAsks};
-ghost use Rattle.questions.specs.SheetOf.{SheetKept, HeldKept};
-ghost use Rattle.sheet.specs.Packed.{heldsOf, Packable, Settled};
+ghost use Rattle.questions.specs.SheetOf.{SheetKept};
 ghost use Rattle.table.specs.Columns.{tableWords};
 ghost use Rattle.table.specs.Streams.{streams};
-ghost use Rattle.table.specs.Table.{Tabled};
-ghost use Rattle.questions.specs.Events.{Gathered};
-ghost use Rattle.questions.specs.Listed.{Workspace};
-ghost use Rattle.booking.specs.Contract.{Leaves, Placeable, Places, Recordable, dayBooked, rowsBooked, Bookable, Books};
+ghost use Rattle.booking.specs.Contract.{Leaves, Placeable, Places, Recordable, dayBooked, rowsBooked, Bookable, Books, SomePass, BooksLent};
 ghost use Rattle.booking.specs.Own.{maxLength, requestOf};
 
 // What a booking gives: the answer, the day and the list's first 256 places.
@@ -137,14 +131,13 @@ fn record_answer(day: Day, rows: [Booking; MAX_BOOKINGS], q: Request, answer: An
     }
 }
 
-// Booking where the file's questions, 14, 15, 11 and 16 have passed: where booking's own pass too, the sheet of the standing bookings is laid
-// down, whatever stood there, and the request is placed on it. The table is that of the standing bookings, `opened` and `closed` have
-// the rounds in which they open and end, and where `same` the sums of bytes held are right, packed so with the numbers lent: a refusal
-// leaves nothing changed, so it puts these back. The request's stream is y.
+// The answer where the file's questions, 14, 15, 11 and 16 have passed of some records: where booking's own pass too, the sheet of the
+// standing bookings is laid down, whatever stood there, and the request is placed on it. The table is that of the standing bookings,
+// `opened` and `closed` have the rounds in which they open and end, and where `same` the sums of bytes held are right, packed so with the
+// numbers lent: a refusal leaves nothing changed, so it puts these back. The request's stream is y. The record is the caller's to write.
 fn book_checked(
     file: &[u8],
     day: Day,
-    rows: [Booking; MAX_BOOKINGS],
     places: u64,
     q: Request,
     table: &[u64],
@@ -156,19 +149,15 @@ fn book_checked(
     opens: &mut [u64],
     reserves: &mut [u64],
     helds: &mut [u64],
-) -> Outcome
-    requires { ⌜ (y ≡ requestOf (now file) q) × (refusal (standingAsks (now file) day rows places (length (now opens)) (length (now reserves)) (length (now helds))) ≡ 0) × Workspace (now table) (now opened) (now closed) × Tabled (catalogueOf (now file)) (take (day .count) rows) (now table) × Gathered (streams (now table)) (day .count) (now opened) (now closed) × (same ≡ true → HeldKept (settingAt (now file) day) (take (day .count) rows) (heldsOf packed (now helds))) × Packable packed (now helds) ⌝ }
-    ensures { λ r. ⌜ ((lent : List ℕ) → Settled packed (day .rounds) lent (now (helds .entry)) → Leaves (settingAt (now (file .entry)) day) (bookCall (settingAt (now (file .entry)) day) (stateOf day rows places (now (opens .entry)) (now (reserves .entry)) lent) q) (r .answer) (r .day) (r .rows) (now (opens .exit)) (now (reserves .exit)) (now (helds .exit))) ⌝ }
+) -> Answer
+    requires { ⌜ (y ≡ requestOf (now file) q) × SomePass (now file) day places (now table) (now opened) (now closed) same packed (now opens) (now reserves) (now helds) ⌝ }
+    ensures { λ r. ⌜ BooksLent (now (file .entry)) day places q (now (table .entry)) (now (opened .entry)) (now (closed .entry)) same packed (now (opens .entry)) (now (reserves .entry)) (now (helds .entry)) r (now (opens .exit)) (now (reserves .exit)) (now (helds .exit)) ⌝ }
 {
     let mut profile = [0u64; MAX_LENGTH];
     let number = own_number(file, day, table, places, q, y, &mut profile);
     if number != 0 {
         restore(packed, helds);
-        return Outcome {
-            answer: Answer::Refused(number),
-            day,
-            rows,
-        };
+        return Answer::Refused(number);
     }
     settle(packed, helds);
     lay_checked(
@@ -184,8 +173,7 @@ fn book_checked(
         helds,
     );
     let n = y.prefetch + y.rounds;
-    let answer = place_on(day, q, table, y, &profile[..n], opens, reserves, helds);
-    record_answer(day, rows, q, answer)
+    place_on(day, q, table, y, &profile[..n], opens, reserves, helds)
 }
 
 // The answer where the file's questions, 14, 15, 11 and 16 have passed, and table and sheet are those of the standing bookings already;
@@ -293,10 +281,9 @@ pub fn book(
     }
     let same = examined.same;
     let packed = examined.packed;
-    book_checked(
+    let answer = book_checked(
         file,
         day,
-        rows,
         places,
         q,
         &table,
@@ -308,5 +295,6 @@ pub fn book(
         opens,
         reserves,
         helds,
-    )
+    );
+    record_answer(day, rows, q, answer)
 }

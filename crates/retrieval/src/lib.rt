@@ -167,7 +167,7 @@ pub fn add_held(
 }
 
 // Writes what the film holds in each of its p + n rounds to the first places of a lent list, which are 0. Does a schedule exist?
-pub fn write_blank(part: &mut [u64], file: &[u8], at: usize, n: usize, p: usize, b: u64) -> bool
+fn write_blank(part: &mut [u64], file: &[u8], at: usize, n: usize, p: usize, b: u64) -> bool
     requires { ⌜ (InRange (now file) at n p b) × (p + n ≤ length (now part)) × (take (p + n) (now part) ≡ replicate (p + n) 0) ⌝ }
     ensures { λ r. ⌜ (now (part .exit) ≡ profile b (sendsAt (now (file .entry)) at n p) ++ drop (p + n) (now (part .entry))) × (r ≡ existsBy b (sendsAt (now (file .entry)) at n p)) ⌝ }
 {

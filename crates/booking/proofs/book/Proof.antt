@@ -2,10 +2,8 @@
 -- first that fits. Assumes nothing.
 use borrow.Author.Needs.{needs}
 use mathlib.Core.Path.{_≡_, sym, ap, _∙_}
-use Prim.Native.Nat.{ℕ}
 use native.Mathlib.Omega.{arith}
 use lib.ListN.{length, take}
-use Rattle.limits.specs.Bounds.{maxBookings}
 use Rattle.laws.specs.Questions.{refusal}
 use Rattle.films.specs.Catalogue.{catalogueOf, catalogue-verdict}
 use Rattle.films.specs.Ordered.{catalogue-ordered}
@@ -16,14 +14,44 @@ use Rattle.model.specs.FirstFit.{book-first}
 use Rattle.load.specs.Streams.{streamOf}
 use Rattle.table.specs.Table.{Tabled}
 use Rattle.questions.specs.Given.{settingAt}
-use Rattle.sheet.specs.PackedLaws.{settled-length, settled-same}
-use Rattle.questions.specs.Numbers.{standingAsks}
+use Rattle.sheet.specs.PackedLaws.{settled-same}
 use Rattle.questions.specs.Standing.{standing-first}
-use Rattle.booking.specs.Contract.{bookAsks}
+use Rattle.booking.specs.Contract.{Passes, bookAsks}
 use Rattle.booking.specs.Placed.{asks-same, leaves-left}
 use Rattle.booking.specs.Placing.{tabled-count, listed-count}
+use Rattle.booking.specs.CheckedLaws.{asks-packed}
 use Rattle.booking.proofs.book.Statement.{statement}
 use Rattle.booking.proofs.book.Tie as tie
+
+-- the table is that of the day's bookings
+tabled : (c : tie.After-tabulate) → let a = c .before .before .before .before .before .before .before .before .args in Tabled (catalogueOf (a .file .now)) (take (a .day .count) (a .rows)) (c .tabulate .last .1 .1 .1 .0)
+tabled c =
+    let start = c .before .before .before .before .before .before .before .before in
+    let a = start .args in
+    tabled-count (catalogueOf (a .file .now)) (a .rows) (a .day .count) (c .before .before .smaller .result) (c .tabulate .last .1 .1 .1 .0) (omega (arith, start)) (c .before .before .smaller .ensures)
+    (rw (c .before .before .before .catalogue .ensures) at (c .tabulate .ensures .0))
+
+-- the questions before booking's own have passed of the records, and left what the rest asks
+passes : (c : tie.Else1) → let a = c .before .before .before .before .before .before .before .before .before .before .before .before .before .before .before .before .before .before .before .args in let asked = c .before .before .before .before .before .examine in
+    Passes (a .file .now) (a .day) (a .rows) (a .places) (c .before .before .before .before .before .before .before .before .before .before .before .tabulate .last .1 .1 .1 .0) (asked .last .1 .1 .1 .1 .1 .1 .1 .1 .0) (asked .last .1 .1 .1 .1 .1 .1 .1 .1 .1 .0)
+    (asked .result .same) (asked .result .packed) (a .opens .now) (a .reserves .now) (asked .last .1 .1 .1 .1 .1 .1 .1 .1 .1 .1 .0)
+passes c =
+    let start = c .before .before .before .before .before .before .before .before .before .before .before .before .before .before .before .before .before .before .before in
+    let a = start .args in
+    let asked = c .before .before .before .before .before .examine in
+    let table = tabled (c .before .before .before .before .before .before .before .before .before .before .before) in
+    let told = asked .ensures in
+    record {
+      full = omega (arith, start);
+      asks =
+          asks-packed (a .file .now) (a .day) (a .rows) (a .places) (length (a .opens .now)) (length (a .reserves .now)) _ (a .helds .now) (asked .result .packed) (asked .result .number) (told .1 .1 .0)
+          (told .0 .number (a .rows) (omega (arith, start)) table) (c .if1 .left);
+      tabled = table;
+      workspace = told .1 .0;
+      events = told .0 .events (c .if1 .left);
+      held = told .0 .held (a .rows) (omega (arith, start)) table;
+      packable = told .1 .1 .0 .packable;
+    }
 
 catalogue-requires : tie.Need-catalogue-requires
 catalogue-requires c κs = search needs
@@ -36,11 +64,7 @@ slice-aggregate-tabulate c = search needs
 
 tabulate-requires : tie.Need-tabulate-requires
 tabulate-requires c κs =
-    let start = c .before .before .before .before .before .before .before in
-    let a = start .args in
-    let f = a .file .now in
-    let full : length (a .rows) ≡ maxBookings = omega (arith, start) in
-    (omega (arith, c .before .smaller .ensures), rw (c .before .before .catalogue .ensures) (catalogue-ordered f), search needs)
+    (omega (arith, c .before .smaller .ensures), rw (c .before .before .catalogue .ensures) (catalogue-ordered (c .before .before .before .before .before .before .before .args .file .now)), search needs)
 
 slice-aggregate-examine : tie.Need-slice-aggregate-examine
 slice-aggregate-examine c = search needs
@@ -55,15 +79,11 @@ examine-requires : tie.Need-examine-requires
 examine-requires c κs =
     let start = c .before .before .before .before .before .before .before .before .before .before .before .before .before in
     let a = start .args in
-    let f = a .file .now in
-    let full : length (a .rows) ≡ maxBookings = omega (arith, start) in
-    let table = c .before .before .before .before .before .tabulate .last .1 .1 .1 .0 in
-    let tabled : Tabled (catalogueOf f) (take (a .day .count) (a .rows)) table =
-    tabled-count (catalogueOf f) (a .rows) (a .day .count) (c .before .before .before .before .before .before .before .smaller .result) table full (c .before .before .before .before .before .before .before .smaller .ensures) (rw (c .before .before .before .before .before .before .before .before .catalogue .ensures) at (c .before .before .before .before .before .tabulate .ensures .0)) in
-    let told = ap (λ (k : Catalogue). k .verdict) (c .before .before .before .before .before .before .before .before .catalogue .ensures) ∙ catalogue-verdict f in (
+    let written = c .before .before .before .before .before in
+    let told = ap (λ (k : Catalogue). k .verdict) (c .before .before .before .before .before .before .before .before .catalogue .ensures) ∙ catalogue-verdict (a .file .now) in (
       told,
-      record { words = omega (arith, c .before .before .before .before .before .tabulate .ensures .1); opens = search needs; closes = search needs },
-      λ z. listed-count f (a .day) (a .rows) table full (sym told ∙ z) tabled,
+      record { words = omega (arith, written .tabulate .ensures .1); opens = search needs; closes = search needs },
+      λ z. listed-count (a .file .now) (a .day) (a .rows) (written .tabulate .last .1 .1 .1 .0) (omega (arith, start)) (sym told ∙ z) (tabled written),
     )
 
 same-length : tie.Need-same-length
@@ -74,16 +94,12 @@ returns c =
     let start = c .before .before .before .before .before .before .before .before .before .before .before .before .before .before .before .before .before .before .before in
     let a = start .args in
     let f = a .file .now in
-    let full : length (a .rows) ≡ maxBookings = omega (arith, start) in
-    let table = c .before .before .before .before .before .before .before .before .before .before .before .tabulate .last .1 .1 .1 .0 in
-    let tabled : Tabled (catalogueOf f) (take (a .day .count) (a .rows)) table =
-    tabled-count (catalogueOf f) (a .rows) (a .day .count) (c .before .before .before .before .before .before .before .before .before .before .before .before .before .smaller .result) table full (c .before .before .before .before .before .before .before .before .before .before .before .before .before .smaller .ensures) (rw (c .before .before .before .before .before .before .before .before .before .before .before .before .before .before .catalogue .ensures) at (c .before .before .before .before .before .before .before .before .before .before .before .tabulate .ensures .0)) in
-    let number = c .before .before .before .before .before .examine in
-    let settled = number .ensures .1 .1 in
-    let first : number .result .number ≡ refusal (bookAsks f (a .day) (a .rows) (a .places) (a .q) (length (a .opens .now)) (length (a .reserves .now)) (length (a .helds .now))) =
-    sym (standing-first f (a .day) (a .rows) (a .places) (length (a .opens .now)) (length (a .reserves .now)) (length (a .helds .now)) _ (number .result .number) (number .ensures .0 .number (a .rows) full tabled) (c .if1 .taken)) in (
-      leaves-left f (a .day) (a .rows) (a .places) (a .q) (a .opens .now) (a .reserves .now) (a .helds .now) (number .last .1 .1 .1 .1 .1 .1 .1 .1 .1 .1 .0) (number .result .number)
-          (settled-same (number .result .packed) (a .day .rounds) (a .helds .now) _ (settled .0) (settled .1 (c .if1 .taken))) first (c .if1 .taken),
+    let asked = c .before .before .before .before .before .examine in
+    let settled = asked .ensures .1 .1 in
+    let first : asked .result .number ≡ refusal (bookAsks f (a .day) (a .rows) (a .places) (a .q) (length (a .opens .now)) (length (a .reserves .now)) (length (a .helds .now))) =
+    sym (standing-first f (a .day) (a .rows) (a .places) (length (a .opens .now)) (length (a .reserves .now)) (length (a .helds .now)) _ (asked .result .number) (asked .ensures .0 .number (a .rows) (omega (arith, start)) (tabled (c .before .before .before .before .before .before .before .before .before .before .before))) (c .if1 .taken)) in (
+      leaves-left f (a .day) (a .rows) (a .places) (a .q) (a .opens .now) (a .reserves .now) (a .helds .now) (asked .last .1 .1 .1 .1 .1 .1 .1 .1 .1 .1 .0) (asked .result .number)
+          (settled-same (asked .result .packed) (a .day .rounds) (a .helds .now) _ (settled .0) (settled .1 (c .if1 .taken))) first (c .if1 .taken),
       λ e.
           absurd
           (c .if1 .taken
@@ -106,27 +122,13 @@ slice-aggregate-book-checked-3 c = search needs
 
 book-checked-requires : tie.Need-book-checked-requires
 book-checked-requires c κs =
-    let start = c .before .before .before .before .before .before .before .before .before .before .before .before .before .before .before .before .before .before .before .before .before .before .before .before .before .before .before in
-    let a = start .args in
-    let f = a .file .now in
-    let full : length (a .rows) ≡ maxBookings = omega (arith, start) in
-    let table = c .before .before .before .before .before .before .before .before .before .before .before .before .before .before .before .before .before .before .before .tabulate .last .1 .1 .1 .0 in
-    let tabled : Tabled (catalogueOf f) (take (a .day .count) (a .rows)) table =
-    tabled-count (catalogueOf f) (a .rows) (a .day .count) (c .before .before .before .before .before .before .before .before .before .before .before .before .before .before .before .before .before .before .before .before .before .smaller .result) table full (c .before .before .before .before .before .before .before .before .before .before .before .before .before .before .before .before .before .before .before .before .before .smaller .ensures) (rw (c .before .before .before .before .before .before .before .before .before .before .before .before .before .before .before .before .before .before .before .before .before .before .catalogue .ensures) at (c .before .before .before .before .before .before .before .before .before .before .before .before .before .before .before .before .before .before .before .tabulate .ensures .0)) in
-    let number = c .before .before .before .before .before .before .before .before .before .before .before .before .before .examine in
-    let examined = number .ensures in
-    let passed = c .before .before .before .before .before .before .before .before .if1 .left in
-    let size = settled-length (number .result .packed) (a .day .rounds) (a .helds .now) (number .last .1 .1 .1 .1 .1 .1 .1 .1 .1 .1 .0) (examined .1 .1 .0) in (
+    let a = c .before .before .before .before .before .before .before .before .before .before .before .before .before .before .before .before .before .before .before .before .before .before .before .before .before .before .before .args in (
       c .before .before .before .before .before .requested .ensures ∙ ap (λ (k : Catalogue). streamOf k (recordOf (a .q) 0)) (c .before .before .before .before .before .before .before .before .before .before .before .before .before .before .before .before .before .before .before .before .before .before .catalogue .ensures),
-      ap (λ (m : ℕ). refusal (standingAsks f (a .day) (a .rows) (a .places) (length (a .opens .now)) (length (a .reserves .now)) m)) size
-          ∙ sym (examined .0 .number (a .rows) full tabled)
-          ∙ passed,
-      examined .1 .0,
-      tabled,
-      examined .0 .events passed,
-      examined .0 .held (a .rows) full tabled,
-      examined .1 .1 .0 .packable,
+      record { rows = a .rows; pass = passes (c .before .before .before .before .before .before .before .before) },
     )
+
+record-answer-requires : tie.Need-record-answer-requires
+record-answer-requires c κs = c .before .before .before .before .before .before .book-checked .ensures .recordable
 
 same-length-2 : tie.Need-same-length-2
 same-length-2 c = search needs
@@ -139,12 +141,13 @@ same-length-4 c = search needs
 
 returns-2 : tie.Need-returns-2
 returns-2 c =
-    let start = c .before .before .before .before .before .before .before .before .before .before .before .before .before .before .before .before .before .before .before .before .before .before .before .before .before .before .before .before .before .before .before .before .before .before in
-    let a = start .args in
-    let f = a .file .now in
-    let booked = c .before .before .before .before .before .before .book-checked .ensures (a .helds .now) (c .before .before .before .before .before .before .before .before .before .before .before .before .before .before .before .before .before .before .before .before .examine .ensures .1 .1 .0) in (
-      booked,
-      λ e. rw (booked .answer) (book-first (settingAt f (a .day)) (stateOf (a .day) (a .rows) (a .places) (a .opens .now) (a .reserves .now) (a .helds .now)) (a .q) e),
+    let a = c .before .before .before .before .before .before .before .before .before .before .before .before .before .before .before .before .before .before .before .before .before .before .before .before .before .before .before .before .before .before .before .before .before .before .before .args in
+    let left = c .record-answer .ensures in
+    let booked = c .before .before .before .before .before .before .before .book-checked .ensures .leaves (a .rows) (a .helds .now) (passes (c .before .before .before .before .before .before .before .before .before .before .before .before .before .before .before .before)) (c .before .before .before .before .before .before .before .before .before .before .before .before .before .before .before .before .before .before .before .before .before .examine .ensures .1 .1 .0) in (
+      rw (left .0, left .1, left .2) booked,
+      λ e.
+          rw (left .0, booked .answer)
+          (book-first (settingAt (a .file .now) (a .day)) (stateOf (a .day) (a .rows) (a .places) (a .opens .now) (a .reserves .now) (a .helds .now)) (a .q) e),
     )
 
 pub book-spec : {M : Type 1} → statement M
@@ -166,6 +169,7 @@ book-spec =
     slice-aggregate-book-checked-2
     slice-aggregate-book-checked-3
     book-checked-requires
+    record-answer-requires
     same-length-2
     same-length-3
     same-length-4
