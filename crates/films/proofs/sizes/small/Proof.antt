@@ -1,12 +1,10 @@
 -- `films::sizes::small` meets its contract: the sizes before the one whose middle is at a multiple of 16, those from it on up to the
 -- last but one, and the last. Assumes nothing.
-use Prim.Native.Nat.{_+_, _*_, _-_, _/_, _%_}
-use mathlib.Core.Path.{sym, ap, _∙_}
-use mathlib.Core.Bool.{_&&_}
+use Prim.Native.Nat.{_+_, _-_, _/_, _%_}
+use mathlib.Core.Path.{sym, _∙_}
 use native.Mathlib.Omega.{arith}
 use borrow.Author.Needs.{needs}
 use borrow.Author.Tests.{not-true, not-false}
-use Rattle.films.specs.Questions.{smallSizes}
 use Rattle.films.proofs.Laws.{small-split}
 use Rattle.films.proofs.sizes.small.Statement.{statement}
 use Rattle.films.proofs.sizes.small.Tie as tie
