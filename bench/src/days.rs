@@ -266,6 +266,23 @@ pub fn refused_by_memory(spikes: Spikes) -> Fixture {
     fixture
 }
 
+/// A day of 86,400 rounds with 64 bookings of 512 rounds, and a window of that many starts, at most 1,000, of which the last alone is
+/// taken: an earlier one would show on a cab while a booking in the middle of the list still does.
+pub fn taken_last(starts: u64) -> Fixture {
+    let film = 512;
+    let mut fixture = day(Size {
+        rounds: 86_400,
+        bookings: 64,
+        film,
+    });
+    let other = fixture.records[32];
+    fixture.day.now = 0;
+    fixture.request.cabs = other.cabs;
+    fixture.request.last = u64::from(other.start) + film;
+    fixture.request.first = fixture.request.last + 1 - starts;
+    fixture
+}
+
 /// What refuses every start of a window of the whole day on a full day.
 #[derive(Clone, Copy, Debug, PartialEq, Eq)]
 pub enum Refuser {

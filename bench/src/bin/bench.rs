@@ -3,12 +3,12 @@
 //!     bench [--write DOCUMENT PICTURES] [--quick] [--hall PROGRAM] [PART ..]
 //!     bench instructions VERSION CASE
 //!
-//! Parts: files, days, sheets, searches, replays, console, growth, stack, instructions; all where none is named.
+//! Parts: files, days, sheets, starts, searches, replays, console, growth, stack, instructions; all where none is named.
 
 use bench::days::Size;
 use bench::document::rewrite;
 use bench::measure::Effort;
-use bench::speed::cases::{file_cases, replay_case, search_cases, sheet_cases};
+use bench::speed::cases::{file_cases, replay_case, search_cases, sheet_cases, start_cases};
 use bench::speed::console::console;
 use bench::speed::growth::growth;
 use bench::speed::instructions::{instructions, run_case};
@@ -109,6 +109,9 @@ fn main() {
     }
     if wanted("sheets") {
         texts.push(("sheets", cases_table(&sheet_cases(), effort, &mut ratios)));
+    }
+    if wanted("starts") {
+        texts.push(("starts", cases_table(&start_cases(), effort, &mut ratios)));
     }
     if wanted("searches") {
         texts.push((

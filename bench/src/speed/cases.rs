@@ -2,8 +2,10 @@
 
 use super::contest::{Call, State};
 use crate::days::{
-    day, films, refused_all_day, refused_by_memory, Fixture, Refuser, Size, Spikes, PREFETCH,
+    day, films, refused_all_day, refused_by_memory, taken_last, Fixture, Refuser, Size, Spikes,
+    PREFETCH,
 };
+use crate::document::grouped;
 use crate::fast::Fast;
 use crate::scheduler::{Scheduler, Sheet};
 use playback::journal;
@@ -92,6 +94,19 @@ pub fn file_cases() -> Vec<Case> {
     ]
 }
 
+/// Bookings of which the last of so many starts is taken.
+pub fn start_cases() -> Vec<Case> {
+    let starts = [1, 10, 100, 1_000].into_iter();
+    let cases = starts.map(|starts| {
+        let name = match starts {
+            1 => "1 start".to_string(),
+            _ => format!("{} starts", grouped(starts)),
+        };
+        case(&name, Call::Book, State::new(taken_last(starts)))
+    });
+    cases.collect()
+}
+
 /// Searches of a window of the whole day, all refused.
 pub fn search_cases() -> Vec<Case> {
     let refused = |name, by| case(name, Call::Book, State::new(refused_all_day(by)));
@@ -177,9 +192,9 @@ pub fn replay_case(size: Size) -> Case {
     state.log = vec![0; journal::ANSWER * entries + journal::LINE * lines];
     let name = format!(
         "{} rounds, {} bookings of {} rounds",
-        crate::document::grouped(size.rounds),
+        grouped(size.rounds),
         size.bookings,
-        crate::document::grouped(size.film)
+        grouped(size.film)
     );
     case(&name, Call::Replay, state)
 }
