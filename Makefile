@@ -40,8 +40,9 @@ LENT := lent $(shell sed -n 's/^lent://p' crates.txt)
 lib: | target
 	@rt staticlib lent
 
+# rt staticlib proves one crate after the other, rt check those that do not need each other at a time.
 $(CURDIR)/target/staticlib/liblent.a: $(foreach crate,$(LENT),$(wildcard crates/$(crate)/src/*.rt)) | target
-	@rt staticlib lent > target/lib.log 2>&1 || { cat target/lib.log; exit 1; }
+	@{ rt check interface && rt staticlib lent; } > target/lib.log 2>&1 || { cat target/lib.log; exit 1; }
 
 archive: $(ARCHIVE)
 

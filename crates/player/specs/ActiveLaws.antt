@@ -19,9 +19,10 @@ use Rattle.questions.specs.Given.{settingAt}
 use Rattle.table.specs.Table.{rowWords, withRow, nameAt, streamAt, endAt, RowIs, Rows}
 use Rattle.table.specs.Words.{linesWords}
 use Rattle.table.specs.TableLaws.{SameRow, same-stream, row-written, length-written, row-other}
+use Rattle.playing.specs.Round.{OfDay}
 use Rattle.player.specs.Ahead.{apartFrom}
 use Rattle.player.specs.AheadLaws.{apart-shut}
-use Rattle.player.specs.Round.{roundWords, roundCabs, roundOpen, OfDay}
+use Rattle.player.specs.Round.{roundWords, roundCabs, roundOpen}
 use Rattle.player.specs.RoundLaws.{words-next, words-shut, cabs-next, cabs-shut, open-next, day-words, day-open, day-cabs}
 use Rattle.player.specs.Active.{Active}
 

@@ -3,17 +3,13 @@ use mathlib.Core.Path.{_≡_}
 use mathlib.Core.Bool.{cond}
 use mathlib.Core.List.{List, [], _∷_, _++_}
 use Prim.Native.Nat.{ℕ, zero, suc, _+_, _-_, _*_, _≤_, min}
-use lib.ListN.{length, getD, take}
+use lib.ListN.{length, getD}
 use lib.Bits.{bitOr}
 use lib.Count.{ones}
-use Rattle.films.specs.declared.types.Catalogue.{Catalogue}
-use Rattle.model.specs.declared.Booking.{Booking}
-use Rattle.model.specs.declared.Day.{Day}
 use Rattle.load.specs.Stream.{sendsOf, openIn, holdsIn}
 use Rattle.load.specs.declared.stream.Stream.{Stream}
 use Rattle.playing.specs.CabLaws.{cabsIn}
-use Rattle.playing.specs.Ready.{Ready}
-use Rattle.table.specs.Table.{nameAt, streamAt, Rows, Tabled}
+use Rattle.table.specs.Table.{nameAt, streamAt, Rows}
 use Rattle.player.specs.Ahead.{Ahead}
 use Rattle.table.specs.Words.{Wrote}
 use Rattle.player.specs.declared.report.Told.{Told}
@@ -54,12 +50,3 @@ pub record Reports (f table : List ℕ) (n t : ℕ) (old : List ℕ) (at : ℕ) 
   pub lines : Wrote old at (roundWords f t table n) new (r .next)
   pub films : r .films ≡ roundOpen t table n
   pub cabs : r .cabs ≡ ones (roundCabs t table n)
-
--- ---- by the day
-
--- the first n rows are those of the bookings of a day that stands
-pub record OfDay (f : List ℕ) (c : Catalogue) (day : Day) (rows : List Booking) (n : ℕ) (table : List ℕ) : Type 0 where
-  pub ready : Ready f c day rows
-  pub there : day .count ≤ length rows
-  pub number : n ≡ day .count
-  pub tabled : Tabled c (take (day .count) rows) table

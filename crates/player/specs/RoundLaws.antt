@@ -7,32 +7,32 @@ use native.Mathlib.Numerals.{add-one}
 use native.Mathlib.Omega.{arith}
 use lib.Dec.{leb, ltb}
 use lib.ListN.{length, getD, take, length-append}
-use lib.Seq.{getD-take, take-suc, length-take-le}
+use lib.Seq.{take-suc}
 use lib.Bits.{bitOr, or-zero-r}
 use lib.Count.{ones}
 use borrow.Author.Tests.{leb-true, ltb-true}
 use Rattle.laws.specs.Tests.{left, right}
 use Rattle.films.specs.declared.types.Catalogue.{Catalogue}
 use Rattle.model.specs.Calls.{noBooking, cabsJoined}
-use Rattle.model.specs.Day.{Setting, openAt, cabsAt, exists}
+use Rattle.model.specs.Day.{Setting, openAt, cabsAt}
 use Rattle.model.specs.Report.{lineOf, linesOf}
 use Rattle.model.specs.declared.Booking.{Booking}
 use Rattle.model.specs.declared.Day.{Day}
 use Rattle.load.specs.Basic.{Playable}
 use Rattle.load.specs.Stream.{endOf, sendsOf, openIn, showsIn, holdsIn}
 use Rattle.load.specs.StreamLaws.{open-within, open-place}
-use Rattle.load.specs.Streams.{streamOf}
 use Rattle.load.specs.declared.stream.Stream.{Stream}
 use Rattle.questions.specs.Given.{settingAt}
-use Rattle.questions.specs.Tied.{Tied, tied-open}
+use Rattle.questions.specs.Tied.{Tied}
 use Rattle.playing.specs.CabLaws.{cabsIn, cabs-tied}
 use Rattle.playing.specs.LineLaws.{line-tied, lines-open, lines-shut}
-use Rattle.playing.specs.Ready.{row-tied, row-exists, row-playable}
-use Rattle.table.specs.Table.{nameAt, streamAt, RowIs, Rows}
+use Rattle.playing.specs.Round.{OfDay}
+use Rattle.playing.specs.RoundLaws.{row-of, tied-of, exists-of, open-of}
+use Rattle.table.specs.Table.{nameAt, streamAt, Rows}
 use Rattle.player.specs.Ahead.{Ahead}
 use Rattle.table.specs.Words.{lineWords, linesWords, Wrote}
 use Rattle.table.specs.WordLaws.{wrote-none, wrote-length, wrote-then, lines-append}
-use Rattle.player.specs.Round.{heldWords, roundWords, roundCabs, roundOpen, OfDay, Reports}
+use Rattle.player.specs.Round.{heldWords, roundWords, roundCabs, roundOpen, Reports}
 
 -- ---- how many are open
 
@@ -198,48 +198,18 @@ module _ (f : List ℕ) (c : Catalogue) (day : Day) (rows : List Booking) (n : �
   abbrev S : Setting
   S = settingAt f day
 
-  size : length (take (day .count) rows) ≡ day .count
-  size = length-take-le (day .count) rows (w .there)
-
-  module _ (i : ℕ) (h : i < day .count) where
-    abbrev b : Booking
-    b = getD rows i noBooking
-
-    row : RowIs table i (b .name) (streamOf c b)
-    row =
-        let e : getD (take (day .count) rows) i noBooking ≡ getD rows i noBooking = getD-take (day .count) rows i noBooking h in
-        rw e at (w .tabled .row i (omega (arith, size)))
-
-    tied : Tied S f b (streamAt table i)
-    tied = row-tied f c day rows (w .ready) (w .there) i h (streamAt table i) (row .stream-is)
-
-    ex : exists S b ≡ true
-    ex = row-exists f c day rows (w .ready) (w .there) i h (streamAt table i) (row .stream-is)
-
-    playable : Playable f (streamAt table i)
-    playable = row-playable f c day rows (w .ready) (w .there) i h (streamAt table i) (row .stream-is)
-
-  -- can be played
-  pub day-rows : Rows f n table
-  day-rows =
-      record {
-        ended =
-            record {
-              size = omega (arith, w .tabled .size, size, w .number);
-              end = λ i u. row i (rw (w .number) at u) .end-is ∙ ap endOf (sym (row i (rw (w .number) at u) .stream-is));
-            };
-        playable = λ i u. playable i (rw (w .number) at u);
-      }
+  tied : (i : ℕ) → i < day .count → Tied S f (getD rows i noBooking) (streamAt table i)
+  tied = tied-of f c day rows n table w
 
   module _ (t : ℕ) where
     line : (i : ℕ) (h : i < day .count) → openIn t (streamAt table i) ≡ true
         → heldWords f t (nameAt table i) (streamAt table i) ≡ lineWords (lineOf S t (getD rows i noBooking))
     line i h o =
-        let l = line-tied S f t (getD rows i noBooking) (streamAt table i) (tied i h) (ex i h) o in
-        rw (o, row i h .name-is) (ap lineWords l)
+        let l = line-tied S f t (getD rows i noBooking) (streamAt table i) (tied i h) (exists-of f c day rows n table w i h) o in
+        rw (o, row-of f c day rows n table w i h .name-is) (ap lineWords l)
 
     open-as : (i : ℕ) (h : i < day .count) (o : Bool) → openIn t (streamAt table i) ≡ o → openAt S t (getD rows i noBooking) ≡ o
-    open-as i h o e = tied-open S f (getD rows i noBooking) (streamAt table i) (tied i h) t ∙ e
+    open-as i h = open-of f c day rows n table w i h t
 
     -- the words of the first i rows are those of the lines of the first i bookings, and there are as many
     told : (i : ℕ) → i ≤ day .count

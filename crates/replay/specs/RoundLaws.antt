@@ -29,7 +29,8 @@ use Rattle.table.specs.Table.{Tabled}
 use Rattle.table.specs.Words.{linesWords, Wrote}
 use Rattle.player.specs.Active.{Active}
 use Rattle.player.specs.ActiveLaws.{report-words, report-films, report-cabs}
-use Rattle.player.specs.Round.{OfDay, Reports}
+use Rattle.playing.specs.Round.{OfDay}
+use Rattle.player.specs.Round.{Reports}
 use Rattle.player.specs.RoundLaws.{words-length}
 use Rattle.player.specs.declared.report.Told.{Told}
 use Rattle.replay.specs.Log.{answerWords}

@@ -15,7 +15,7 @@ use Rattle.questions.specs.Numbers.{standingAsks}
 use Rattle.table.specs.Table.{Tabled}
 use Rattle.player.specs.Active.{Active}
 use Rattle.player.specs.Ahead.{Ahead}
-use Rattle.player.specs.Round.{OfDay}
+use Rattle.playing.specs.Round.{OfDay}
 use Rattle.replay.specs.Journal.{entryWords}
 use Rattle.replay.specs.DeskRun.{TriesPlay}
 use Rattle.replay.specs.LoopLaws.{Going}

@@ -27,8 +27,10 @@ use Rattle.playing.specs.LineLaws.{take-padded}
 use Rattle.playing.specs.Laws.{ownAsks, own-after, standing-ready, plays-accepted}
 use Rattle.table.specs.Words.{linesWords}
 use Rattle.table.specs.Words as words
-use Rattle.player.specs.Round.{OfDay, Reports}
-use Rattle.player.specs.RoundLaws.{day-rows, day-words, day-open, day-cabs}
+use Rattle.playing.specs.Round.{OfDay}
+use Rattle.playing.specs.RoundLaws.{day-rows}
+use Rattle.player.specs.Round.{Reports}
+use Rattle.player.specs.RoundLaws.{day-words, day-open, day-cabs}
 use Rattle.table.specs.Table.{Rows, Tabled}
 use Rattle.player.specs.declared.report.Told.{Told}
 use Rattle.commands.specs.declared.Command.{Command}

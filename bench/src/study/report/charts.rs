@@ -1,6 +1,6 @@
 //! The study's picture.
 
-use super::{best_way, Study, Way, COARSE, MILLION};
+use super::{best_way, Study, Way, MILLION};
 use crate::chart::{Axis, Panel, Series};
 use crate::study::film::{least_reserve, SHAPE};
 use crate::study::policy::{Disk, Memory};
@@ -131,7 +131,7 @@ impl Study {
                         "study: picture, {name}, {} requests, M {memory} million",
                         trial.requests
                     );
-                    let (_, outcome) = self.outcome(way, trial, memory * MILLION, COARSE);
+                    let (_, outcome) = self.outcome(way, trial, memory * MILLION);
                     ((memory * MILLION) as f64, f64::from(outcome.admitted))
                 });
                 Series {

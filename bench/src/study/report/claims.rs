@@ -1,6 +1,6 @@
 //! What the papers claimed beside what is seen here.
 
-use super::{best_way, Study, Way, INCREMENT, MILLION};
+use super::{best_way, Study, Way, MILLION};
 use crate::document::sentences;
 use crate::study::film::SHAPE;
 use crate::study::policy::{Disk, Memory};
@@ -16,9 +16,7 @@ impl Study {
                 "study: claims, {} requests, M {memory} million",
                 trial.requests
             );
-            self.outcome(way, trial, memory * MILLION, INCREMENT)
-                .1
-                .admitted
+            self.outcome(way, trial, memory * MILLION).1.admitted
         };
         let wide = admitted(best_way(256, Disk::Reserve, Memory::Peak), TOGETHER, 150);
         let constant = admitted(Way::ConstantRate, TOGETHER, 150);

@@ -13,8 +13,6 @@ use playback::limits::MAX_MEMORY;
 const MILLION: u64 = 1_000_000;
 /// Reserves are tried at multiples of this many bytes per round, 0.2 Mbit/s.
 const INCREMENT: u64 = 12_500;
-/// The same for the picture.
-const COARSE: u64 = 2 * INCREMENT;
 /// Rounds of a group (004's generalised constant time length with four seconds a group).
 const GROUP: usize = 8;
 
@@ -113,17 +111,16 @@ impl Study {
         prefetch: u64,
         disk: Disk,
         memory: Memory,
-        step: u64,
     ) -> impl Iterator<Item = Policy> + '_ {
         let least = least_reserve(&self.file, prefetch, MAX_MEMORY).expect("a reserve will do");
-        let multiples = (0..=SHAPE.peak / step).map(move |count| count * step);
+        let multiples = (0..=SHAPE.peak / INCREMENT).map(|count| count * INCREMENT);
         let reserves = std::iter::once(least).chain(multiples.filter(move |&b| b > least));
         reserves.filter_map(move |reserve| {
             Policy::just_in_time(&self.file, &self.sizes, prefetch, reserve, disk, memory)
         })
     }
 
-    fn outcome(&self, way: Way, trial: Trial, memory: u64, step: u64) -> (Policy, Outcome) {
+    fn outcome(&self, way: Way, trial: Trial, memory: u64) -> (Policy, Outcome) {
         match way {
             Way::Fixed {
                 prefetch,
@@ -152,7 +149,7 @@ impl Study {
                 disk,
                 memory: charged,
             } => {
-                let policies = self.policies(prefetch, disk, charged, step);
+                let policies = self.policies(prefetch, disk, charged);
                 best(trial, &self.sizes, memory, policies).expect("some reserve is tried")
             }
         }

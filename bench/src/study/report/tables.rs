@@ -1,6 +1,6 @@
 //! The tables of the film and of the streams admitted.
 
-use super::{Study, INCREMENT, MILLION};
+use super::{Study, MILLION};
 use crate::document::{grouped, table};
 use crate::study::film::{checksum, SEED, SHAPE};
 use crate::study::policy::Policy;
@@ -47,7 +47,7 @@ impl Study {
                     "study: {name}, {} requests, M {memory} million",
                     trial.requests
                 );
-                let (policy, outcome) = self.outcome(way, trial, memory * MILLION, INCREMENT);
+                let (policy, outcome) = self.outcome(way, trial, memory * MILLION);
                 row.push(format!(
                     "{} ({})",
                     outcome.admitted,

@@ -4,7 +4,7 @@ use Prim.Native.Nat.{_+_, _<_}
 use native.Mathlib.Omega.{arith}
 use borrow.Author.Tests.{not-false}
 use Rattle.player.specs.AheadLaws.{ahead-until}
-use Rattle.player.specs.RoundLaws.{day-rows}
+use Rattle.playing.specs.RoundLaws.{day-rows}
 use Rattle.replay.specs.RoundLaws.{tried-of-none}
 use Rattle.replay.specs.declared.journal.Entry.the-variants.{Play}
 use borrow.Author.Needs.{needs}

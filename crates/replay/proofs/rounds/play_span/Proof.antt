@@ -3,7 +3,7 @@
 use Prim.Native.Nat.{_+_}
 use native.Mathlib.Omega.{arith}
 use Rattle.player.specs.ActiveLaws.{active-until}
-use Rattle.player.specs.RoundLaws.{day-rows}
+use Rattle.playing.specs.RoundLaws.{day-rows}
 use Rattle.replay.specs.RoundLaws.{gives-none}
 use borrow.Author.Needs.{needs}
 use Rattle.replay.proofs.rounds.play_span.Statement.{statement}
