@@ -47,9 +47,9 @@ ghost use Rattle.booking.specs.Own.{maxLength, requestOf};
 
 // What a booking gives: the answer, the day and the list's first 256 places.
 pub struct Outcome {
+    pub rows: [Booking; MAX_BOOKINGS],
     pub answer: Answer,
     pub day: Day,
-    pub rows: [Booking; MAX_BOOKINGS],
 }
 
 // rounds that a stream is open, at most

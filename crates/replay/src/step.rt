@@ -34,10 +34,10 @@ ghost use Rattle.replay.specs.declared.journal.Entry.the-variants.{Book,
 
 // What an entry leaves: whether it was done, the place in the log after it, the day and the records' places.
 pub struct Stepped {
+    pub rows: [Booking; MAX_BOOKINGS],
     pub done: bool,
     pub next: usize,
     pub day: Day,
-    pub rows: [Booking; MAX_BOOKINGS],
 }
 
 // What a PLAY leaves, with the records as they were.
