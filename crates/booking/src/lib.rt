@@ -45,7 +45,8 @@ ghost use Rattle.table.specs.Streams.{streams};
 ghost use Rattle.booking.specs.Contract.{Leaves, Placeable, Places, Recordable, dayBooked, rowsBooked, Bookable, Books, SomePass, BooksLent};
 ghost use Rattle.booking.specs.Own.{maxLength, requestOf};
 
-// What a booking gives: the answer, the day and the list's first 256 places.
+// What a booking gives: the answer, the day and the list's first 256 places. These stand first for the pace at which they are copied
+// (docs/BENCHMARKS.md, 'What makes the difference').
 pub struct Outcome {
     pub rows: [Booking; MAX_BOOKINGS],
     pub answer: Answer,

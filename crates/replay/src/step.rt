@@ -32,7 +32,8 @@ ghost use Rattle.replay.specs.DeskRun.{refusalOf, Refuses, asStep, Steps
 ghost use Rattle.replay.specs.Pictured.{Pictured};
 ghost use Rattle.replay.specs.declared.journal.Entry.the-variants.{Book, Drop, Play};
 
-// What an entry leaves: whether it was done, the place in the log after it, the day and the records' places.
+// What an entry leaves: whether it was done, the place in the log after it, the day and the records' places, which stand first as in
+// `booking::Outcome`.
 pub struct Stepped {
     pub rows: [Booking; MAX_BOOKINGS],
     pub done: bool,
