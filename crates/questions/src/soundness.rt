@@ -40,7 +40,7 @@ fn unsound() -> Checked
     }
 }
 
-// `held_within`, on the rows in the order of their starts: it adds rows two by two, and those that start near each other show together.
+// `held_within`, on the rows in the order of their starts: it adds rows three at once, and those that start near each other show together.
 fn held_sorted(
     file: &[u8],
     table: &[u64],

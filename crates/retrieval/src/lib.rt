@@ -1,9 +1,9 @@
 // A film's just-in-time schedule, where its sizes stand in the file: whether there is one, its peak, what it holds, one round.
 // Each is one pass over the sizes, with no buffer. The film's n sizes stand at offset `at`, p is its pre-fetch rounds
 // and b its reserve in bytes per round; rounds are counted from its start.
-pub mod both;
 pub mod clear;
 pub mod shown;
+pub mod three;
 
 ghost use mathlib.Core.Path.{_≡_};
 ghost use mathlib.Core.List.{_++_};

@@ -22,7 +22,8 @@ use Rattle.retrieval.specs.Stored.{maxHeld, largest-bound}
 use Rattle.load.specs.Stream.{noStream, sendsOf, total, holdsIn, heldIn, carryFrom}
 use Rattle.load.specs.Basic.{Playable, Within, EachOf}
 use Rattle.sheet.specs.Memory.{feasible, memoryKept, Spans, openUntil, Windowed, Added, Fills, Filled, WindowKept}
-use Rattle.sheet.specs.Two.{WindowedTwo, AddedTwo}
+use Rattle.retrieval.specs.declared.three.Carries.{Carries}
+use Rattle.sheet.specs.Three.{WindowedThree, AddedThree}
 use Rattle.sheet.specs.WindowLaws.{carry-late}
 use Rattle.sheet.specs.OpenLaws.{skip-carried, skip-kept}
 use Rattle.load.specs.declared.stream.Stream.{Stream}
@@ -57,6 +58,12 @@ pub record Filling (f : List ℕ) (xs : List Stream) (n : ℕ) (window₀ left�
   pub most : largest window ≤ maxHeld * i
   pub done : (k : ℕ) → k < i → getD left k 0 ≡ carryFrom f w (getD xs k noStream)
   pub rest : (k : ℕ) → i ≤ k → k < n → getD left k 0 ≡ carryFrom f e (getD xs k noStream)
+
+-- of the lists at the beginning the lengths alone count
+pub filling-from : (f : List ℕ) (xs : List Stream) (n : ℕ) (window₀ left₀ window₁ left₁ : List ℕ) (w e : ℕ) (window left : List ℕ) (i : ℕ) → length window₀ ≡ length window₁
+    → length left₀ ≡ length left₁ → Filling f xs n window₀ left₀ w e window left i → Filling f xs n window₁ left₁ w e window left i
+filling-from f xs n window₀ left₀ window₁ left₁ w e window left i places carries g =
+    record { within = g .within; same = g .same ∙ places; size = g .size ∙ carries; held = g .held; most = g .most; done = g .done; rest = g .rest }
 
 module _ (f : List ℕ) (xs : List Stream) (n : ℕ) (window₀ left₀ : List ℕ) (w e : ℕ) (a : Fills f xs n window₀ w e left₀) where
   pub filling-none : Filling f xs n window₀ left₀ w e window₀ left₀ 0
@@ -102,57 +109,90 @@ module _ (f : List ℕ) (xs : List Stream) (n : ℕ) (window₀ left₀ : List �
           rest = λ k u v. getD-set-other left i k c 0 (λ z. omega arith) ∙ g .rest k (omega arith) v;
         }
 
-  -- two streams at once
-  module _ (window left : List ℕ) (i : ℕ) (h : i + 1 < n) (g : Filling f xs n window₀ left₀ w e window left i) where
-    pub filling-asks-two : WindowedTwo f (getD xs i noStream) (getD xs (i + 1) noStream) window w e (getD left i 0) (getD left (i + 1) 0)
-    filling-asks-two =
+  -- three streams at once
+  module _ (window left : List ℕ) (i : ℕ) (h : i + 2 < n) (g : Filling f xs n window₀ left₀ w e window left i) where
+    abbrev nth : ℕ → Stream
+    nth k = getD xs k noStream
+
+    pub filling-asks-three : (c : Carries) → c .first ≡ getD left i 0 → c .second ≡ getD left (i + 1) 0 → c .third ≡ getD left (i + 2) 0
+        → WindowedThree f (nth i) (nth (i + 1)) (nth (i + 2)) window w e c
+    filling-asks-three c p q r =
         record {
           first = a .streams i (omega arith);
-          second = a .streams (i + 1) h;
+          second = a .streams (i + 1) (omega arith);
+          third = a .streams (i + 2) h;
           order = a .order;
           places = omega (arith, a .places, g .same);
-          first-carried = g .rest i (omega arith) (omega arith);
-          second-carried = g .rest (i + 1) (omega arith) h;
+          carried =
+              record {
+                first = p ∙ g .rest i (omega arith) (omega arith);
+                second = q ∙ g .rest (i + 1) (omega arith) (omega arith);
+                third = r ∙ g .rest (i + 2) (omega arith) h;
+              };
           room = omega (arith, g .most, a .few);
         }
 
-    pub filling-two : (after : List ℕ) (c d : ℕ) → n ≤ length xs → AddedTwo f (getD xs i noStream) (getD xs (i + 1) noStream) window after w e c d
-        → Filling f xs n window₀ left₀ w e after (set (set left i c) (i + 1) d) (i + 2)
-    filling-two after c d l b =
-        record {
-          within = omega arith;
-          same = b .same ∙ g .same;
-          size = length-set (set left i c) (i + 1) d ∙ length-set left i c ∙ g .size;
-          held =
-              λ t u v.
-              let more : i + 1 + 1 ≡ i + 2 = omega arith in
-              omega (
-                arith,
-                b .held t u v,
-                g .held t u v,
-                total-take (holdsIn f t) xs i noStream (omega arith),
-                rw more at (total-take (holdsIn f t) xs (i + 1) noStream (omega arith)),
-              );
-          most = omega (arith, b .most, g .most);
-          done = λ k u. done k u (decLe i k) (decLe (i + 1) k);
-          rest = λ k u v. other k (λ z. omega arith) (λ z. omega arith) ∙ g .rest k (omega arith) v;
-        }
-      where
-        other : (k : ℕ) → (k ≡ i → ⊥) → (k ≡ i + 1 → ⊥) → getD (set (set left i c) (i + 1) d) k 0 ≡ getD left k 0
-        other k p q =
-            getD-set-other (set left i c) (i + 1) k d 0 (λ z. q z) ∙ getD-set-other left i k c 0 (λ z. p z)
+    module _ (c : Carries) where
+      abbrev one : List ℕ
+      one = set left i (c .first)
 
-        done : (k : ℕ) → k < i + 2 → Dec (i ≤ k) → Dec (i + 1 ≤ k) → getD (set (set left i c) (i + 1) d) k 0 ≡ carryFrom f w (getD xs k noStream)
-        done k u (no p) q = other k (λ z. omega arith) (λ z. omega arith) ∙ g .done k (omega arith)
-        done k u (yes p) (no q) =
-            let z : k ≡ i = omega arith in
-            rw z
-            (getD-set-other (set left i c) (i + 1) i d 0 (λ y. omega arith)
-            ∙ getD-set-same left i c 0 (omega (arith, g .size, a .size))
-            ∙ b .first-carried)
-        done k u (yes p) (yes q) =
-            let z : k ≡ i + 1 = omega arith in
-            rw z (getD-set-same (set left i c) (i + 1) d 0 (omega (arith, length-set left i c, g .size, a .size)) ∙ b .second-carried)
+      abbrev two : List ℕ
+      two = set one (i + 1) (c .second)
+
+      abbrev three : List ℕ
+      three = set two (i + 2) (c .third)
+
+      size-two : length two ≡ length left
+      size-two = length-set one (i + 1) (c .second) ∙ length-set left i (c .first)
+
+      other : (k : ℕ) → (k ≡ i → ⊥) → (k ≡ i + 1 → ⊥) → (k ≡ i + 2 → ⊥) → getD three k 0 ≡ getD left k 0
+      other k p q r =
+          getD-set-other two (i + 2) k (c .third) 0 (λ z. r z)
+          ∙ getD-set-other one (i + 1) k (c .second) 0 (λ z. q z)
+          ∙ getD-set-other left i k (c .first) 0 (λ z. p z)
+
+      pub filling-three : (after : List ℕ) → n ≤ length xs → AddedThree f (nth i) (nth (i + 1)) (nth (i + 2)) window after w e c
+          → Filling f xs n window₀ left₀ w e after three (i + 3)
+      filling-three after l b =
+          record {
+            within = omega arith;
+            same = b .same ∙ g .same;
+            size = length-set two (i + 2) (c .third) ∙ size-two ∙ g .size;
+            held =
+                λ t u v.
+                let more : i + 1 + 1 ≡ i + 2 = omega arith in
+                let most : i + 2 + 1 ≡ i + 3 = omega arith in
+                omega (
+                  arith,
+                  b .held t u v,
+                  g .held t u v,
+                  total-take (holdsIn f t) xs i noStream (omega arith),
+                  rw more at (total-take (holdsIn f t) xs (i + 1) noStream (omega arith)),
+                  rw most at (total-take (holdsIn f t) xs (i + 2) noStream (omega arith)),
+                );
+            most = omega (arith, b .most, g .most);
+            done = λ k u. done k u (decLe i k) (decLe (i + 1) k) (decLe (i + 2) k);
+            rest = λ k u v. other k (λ z. omega arith) (λ z. omega arith) (λ z. omega arith) ∙ g .rest k (omega arith) v;
+          }
+        where
+          done : (k : ℕ) → k < i + 3 → Dec (i ≤ k) → Dec (i + 1 ≤ k) → Dec (i + 2 ≤ k) → getD three k 0 ≡ carryFrom f w (nth k)
+          done k u (no p) q r = other k (λ z. omega arith) (λ z. omega arith) (λ z. omega arith) ∙ g .done k (omega arith)
+          done k u (yes p) (no q) r =
+              let z : k ≡ i = omega arith in
+              rw z
+              (getD-set-other two (i + 2) i (c .third) 0 (λ y. omega arith)
+              ∙ getD-set-other one (i + 1) i (c .second) 0 (λ y. omega arith)
+              ∙ getD-set-same left i (c .first) 0 (omega (arith, g .size, a .size))
+              ∙ b .carried .first)
+          done k u (yes p) (yes q) (no r) =
+              let z : k ≡ i + 1 = omega arith in
+              rw z
+              (getD-set-other two (i + 2) (i + 1) (c .third) 0 (λ y. omega arith)
+              ∙ getD-set-same one (i + 1) (c .second) 0 (omega (arith, length-set left i (c .first), g .size, a .size))
+              ∙ b .carried .second)
+          done k u (yes p) (yes q) (yes r) =
+              let z : k ≡ i + 2 = omega arith in
+              rw z (getD-set-same two (i + 2) (c .third) 0 (omega (arith, size-two, g .size, a .size)) ∙ b .carried .third)
 
   pub filling-all : (window left : List ℕ) (i : ℕ) → i ≡ n → Filling f xs n window₀ left₀ w e window left i
       → Filled f xs n window w e left

@@ -4,7 +4,7 @@ pub mod Packed
 pub mod Parts
 pub mod Sheet
 pub mod WindowLaws
-pub mod Two
+pub mod Three
 pub mod OpenLaws
 pub mod FillLaws
 pub mod SheetLaws

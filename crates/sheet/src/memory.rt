@@ -5,13 +5,14 @@ use crate::packed::Packed;
 use crate::packed::restore;
 use crate::packed::settle_gap;
 use crate::packed::settle_window;
-use crate::window::add_two;
+use crate::window::add_streams;
 use crate::window::larger;
 use crate::window::smaller;
 use crate::window::window_add;
 use limits::bounds::MAX_BOOKINGS;
 use lists::joined::all_within;
 use retrieval::clear::clear;
+use retrieval::three::Carries;
 use table::streams::stream_at;
 ghost use mathlib.Core.Path.{_≡_};
 ghost use mathlib.Core.Bool.{false};
@@ -105,7 +106,7 @@ fn open_from(starts: &[usize], ends: &[usize], count: usize, w: usize, last: usi
     m
 }
 
-// Fills an empty window with what the first `count` streams hold in the rounds from w to e - 1, two by two, and turns `carries`, those
+// Fills an empty window with what the first `count` streams hold in the rounds from w to e - 1, three by three, and turns `carries`, those
 // of their rounds from e on, into those of their rounds from w on.
 fn window_fill(
     file: &[u8],
@@ -120,20 +121,29 @@ fn window_fill(
     ensures { λ _. ⌜ Filled (now (file .entry)) (streams (now (table .entry))) count (now (window .exit)) w e (now (carries .exit)) ⌝ }
 {
     let mut i = 0;
-    while i + 1 < count {
+    while i + 2 < count {
         let x = stream_at(table, i);
         let y = stream_at(table, i + 1);
-        let c = carries[i];
-        let d = carries[i + 1];
-        let left = add_two(file, x, y, window, w, e, c, d);
+        let z = stream_at(table, i + 2);
+        let first = carries[i];
+        let second = carries[i + 1];
+        let third = carries[i + 2];
+        let c = Carries {
+            first,
+            second,
+            third,
+        };
+        let left = add_streams(file, x, y, z, window, w, e, c);
         carries[i] = left.first;
         carries[i + 1] = left.second;
-        i += 2;
+        carries[i + 2] = left.third;
+        i += 3;
     }
-    if i < count {
+    while i < count {
         let x = stream_at(table, i);
         let c = carries[i];
         carries[i] = window_add(file, x, window, w, e, c);
+        i += 1;
     }
 }
 

@@ -1,15 +1,17 @@
 // Streams added to a window: the rounds from w to e - 1, the first of a list's places.
 use load::stream::Stream;
-use retrieval::both::Carries;
-use retrieval::both::Run;
-use retrieval::both::add_both;
+use retrieval::three::Carries;
+use retrieval::three::Run;
+use retrieval::three::add_three;
 ghost use mathlib.Core.Path.{_≡_};
 ghost use mathlib.Core.Bool.{false};
-ghost use Prim.Native.Nat.{_≤_, min, max};
+ghost use Prim.Native.Nat.{_+_, _≤_, min, max};
+ghost use Rattle.load.specs.Basic.{Bounded};
+ghost use Rattle.load.specs.Stream.{endOf};
 ghost use Rattle.sheet.specs.Memory.{Windowed, Added};
-ghost use Rattle.sheet.specs.Two.{WindowedTwo, AddedTwo, ShowsThrough, runFrom};
+ghost use Rattle.sheet.specs.Three.{WindowedThree, AddedThree, ShowsThrough, runFrom};
 
-// rounds in which two streams are worth adding at once, at least
+// rounds in which three streams are worth adding at once, at least
 const FEW: usize = 16;
 
 // The larger of two.
@@ -52,23 +54,28 @@ pub fn window_add(file: &[u8], x: Stream, window: &mut [u64], w: usize, e: usize
     )
 }
 
-// Adds what two streams hold, one after the other, as `window_add` does. Gives the carries of their rounds from w on.
+// Adds what three streams hold, one after the other, as `window_add` does. Gives the carries of their rounds from w on.
 fn add_singly(
     file: &[u8],
     x: Stream,
     y: Stream,
+    z: Stream,
     window: &mut [u64],
     w: usize,
     e: usize,
-    c: u64,
-    d: u64,
+    c: Carries,
 ) -> Carries
-    requires { ⌜ WindowedTwo (now file) x y (now window) w e c d ⌝ }
-    ensures { λ r. ⌜ AddedTwo (now (file .entry)) x y (now (window .entry)) (now (window .exit)) w e (r .first) (r .second) ⌝ }
+    requires { ⌜ WindowedThree (now file) x y z (now window) w e c ⌝ }
+    ensures { λ r. ⌜ AddedThree (now (file .entry)) x y z (now (window .entry)) (now (window .exit)) w e r ⌝ }
 {
-    let first = window_add(file, x, window, w, e, c);
-    let second = window_add(file, y, window, w, e, d);
-    Carries { first, second }
+    let first = window_add(file, x, window, w, e, c.first);
+    let second = window_add(file, y, window, w, e, c.second);
+    let third = window_add(file, z, window, w, e, c.third);
+    Carries {
+        first,
+        second,
+        third,
+    }
 }
 
 // The stream's rounds from round t of the day on.
@@ -85,49 +92,73 @@ fn run_from(x: Stream, t: usize) -> Run
     }
 }
 
-// `add_singly` where both streams show in every round from w to e - 1: both at once.
+// `add_singly` where all three streams show in every round from w to e - 1: all at once.
 fn add_shown(
     file: &[u8],
     x: Stream,
     y: Stream,
+    z: Stream,
     window: &mut [u64],
     w: usize,
     e: usize,
-    c: u64,
-    d: u64,
+    c: Carries,
 ) -> Carries
-    requires { ⌜ WindowedTwo (now file) x y (now window) w e c d × ShowsThrough x w e × ShowsThrough y w e ⌝ }
-    ensures { λ r. ⌜ AddedTwo (now (file .entry)) x y (now (window .entry)) (now (window .exit)) w e (r .first) (r .second) ⌝ }
+    requires { ⌜ WindowedThree (now file) x y z (now window) w e c × ShowsThrough x w e × ShowsThrough y w e × ShowsThrough z w e ⌝ }
+    ensures { λ r. ⌜ AddedThree (now (file .entry)) x y z (now (window .entry)) (now (window .exit)) w e r ⌝ }
 {
-    add_both(window, file, run_from(x, w), run_from(y, w), e - w, c, d)
+    add_three(
+        window,
+        file,
+        run_from(x, w),
+        run_from(y, w),
+        run_from(z, w),
+        e - w,
+        c,
+    )
 }
 
-// `add_singly` where both streams show in every round from m to e - 1: at once in these.
+// `add_singly` where all three streams show in every round from m to e - 1: at once in these.
 fn add_from(
     file: &[u8],
     x: Stream,
     y: Stream,
+    z: Stream,
     window: &mut [u64],
     w: usize,
     m: usize,
     e: usize,
-    c: u64,
-    d: u64,
+    c: Carries,
 ) -> Carries
-    requires { ⌜ WindowedTwo (now file) x y (now window) w e c d × (w ≤ m) × (m ≤ e) × ShowsThrough x m e × ShowsThrough y m e ⌝ }
-    ensures { λ r. ⌜ AddedTwo (now (file .entry)) x y (now (window .entry)) (now (window .exit)) w e (r .first) (r .second) ⌝ }
+    requires { ⌜ WindowedThree (now file) x y z (now window) w e c × (w ≤ m) × (m ≤ e) × ShowsThrough x m e × ShowsThrough y m e × ShowsThrough z m e ⌝ }
+    ensures { λ r. ⌜ AddedThree (now (file .entry)) x y z (now (window .entry)) (now (window .exit)) w e r ⌝ }
 {
     let place = m - w;
-    let left = add_shown(file, x, y, &mut window[place..], m, e, c, d);
-    add_singly(
-        file,
-        x,
-        y,
-        &mut window[..place],
-        w,
-        m,
-        left.first,
-        left.second,
+    let left = add_shown(file, x, y, z, &mut window[place..], m, e, c);
+    add_singly(file, x, y, z, &mut window[..place], w, m, left)
+}
+
+// The first of the rounds from w on in which all three streams have begun to show.
+fn shown_from(w: usize, x: Stream, y: Stream, z: Stream) -> usize
+    requires { ⌜ Bounded x × Bounded y × Bounded z ⌝ }
+    ensures { λ r. ⌜ (w ≤ r) × (x .start + x .prefetch ≤ r) × (y .start + y .prefetch ≤ r) × (z .start + z .prefetch ≤ r) ⌝ }
+{
+    larger(
+        larger(w, x.start + x.prefetch),
+        larger(y.start + y.prefetch, z.start + z.prefetch),
+    )
+}
+
+// The last of the rounds up to e before which none of three streams has ended.
+fn shown_until(e: usize, x: Stream, y: Stream, z: Stream) -> usize
+    requires { ⌜ Bounded x × Bounded y × Bounded z ⌝ }
+    ensures { λ r. ⌜ (r ≤ e) × (r ≤ endOf x) × (r ≤ endOf y) × (r ≤ endOf z) ⌝ }
+{
+    smaller(
+        smaller(e, x.start + x.prefetch + x.rounds),
+        smaller(
+            y.start + y.prefetch + y.rounds,
+            z.start + z.prefetch + z.rounds,
+        ),
     )
 }
 
@@ -141,38 +172,26 @@ fn few(m: usize, e: usize) -> bool
     e - m < FEW
 }
 
-// `add_singly`, at once in the rounds in which both streams show, unless these are few.
-pub fn add_two(
+// `add_singly`, at once in the rounds in which all three streams show, unless these are few.
+pub fn add_streams(
     file: &[u8],
     x: Stream,
     y: Stream,
+    z: Stream,
     window: &mut [u64],
     w: usize,
     e: usize,
-    c: u64,
-    d: u64,
+    c: Carries,
 ) -> Carries
-    requires { ⌜ WindowedTwo (now file) x y (now window) w e c d ⌝ }
-    ensures { λ r. ⌜ AddedTwo (now (file .entry)) x y (now (window .entry)) (now (window .exit)) w e (r .first) (r .second) ⌝ }
+    requires { ⌜ WindowedThree (now file) x y z (now window) w e c ⌝ }
+    ensures { λ r. ⌜ AddedThree (now (file .entry)) x y z (now (window .entry)) (now (window .exit)) w e r ⌝ }
 {
-    let shown = x.start + x.prefetch;
-    let other = y.start + y.prefetch;
-    let m = larger(w, larger(shown, other));
-    let last = smaller(e, smaller(shown + x.rounds, other + y.rounds));
+    let m = shown_from(w, x, y, z);
+    let last = shown_until(e, x, y, z);
     if few(m, last) {
-        return add_singly(file, x, y, window, w, e, c, d);
+        return add_singly(file, x, y, z, window, w, e, c);
     }
     let place = last - w;
-    let left = add_singly(file, x, y, &mut window[place..], last, e, c, d);
-    add_from(
-        file,
-        x,
-        y,
-        &mut window[..place],
-        w,
-        m,
-        last,
-        left.first,
-        left.second,
-    )
+    let left = add_singly(file, x, y, z, &mut window[place..], last, e, c);
+    add_from(file, x, y, z, &mut window[..place], w, m, last, left)
 }

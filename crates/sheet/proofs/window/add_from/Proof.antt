@@ -2,7 +2,7 @@
 use Prim.Native.Nat.{_-_}
 use borrow.Author.Needs.{needs}
 use Rattle.laws.specs.Parts.{tail-part, tail-back}
-use Rattle.sheet.specs.Two.{tail-asks, head-length, head-asks, parts-added}
+use Rattle.sheet.specs.Three.{tail-asks, head-length, head-asks, parts-added}
 use Rattle.sheet.proofs.window.add_from.Statement.{statement}
 use Rattle.sheet.proofs.window.add_from.Tie as tie
 
@@ -25,10 +25,10 @@ add-shown-requires : tie.Need-add-shown-requires
 add-shown-requires c κs =
     let a = c .before .before .before .args in
     let pre = c .before .before .before .pre in (
-      rw (tail-part (a .m - a .w) (a .window .now))
-          (tail-asks (a .file .now) (a .x) (a .y) (a .window .now) (a .w) (a .m) (a .e) (a .c) (a .d) (pre .0) (pre .1) (pre .2)),
+      rw (tail-part (a .m - a .w) (a .window .now)) (tail-asks (a .file .now) (a .x) (a .y) (a .z) (a .window .now) (a .w) (a .m) (a .e) (a .c) (pre .0) (pre .1) (pre .2)),
       pre .3,
       pre .4,
+      pre .5,
     )
 
 slice-relend-prefix-add-singly : tie.Need-slice-relend-prefix-add-singly
@@ -39,18 +39,16 @@ slice-aggregate-add-singly c =
     let a = c .before .before .before .before .before .before .before .args in
     let pre = c .before .before .before .before .before .before .before .pre in
     let tail = c .before .before .before .add-shown in
-    rw (tail-back (a .m - a .w) (a .window .now) (tail .last .1 .1 .1 .0))
-    (head-length (a .file .now) (a .x) (a .y) (a .window .now) (a .w) (a .m) (a .e) (a .c) (a .d) (pre .0) (pre .1) (pre .2) (tail .last .1 .1 .1 .0) (tail .result .first)
-    (tail .result .second) (rw (tail-part (a .m - a .w) (a .window .now)) at (tail .ensures)))
+    rw (tail-back (a .m - a .w) (a .window .now) (tail .last .1 .1 .1 .1 .0))
+    (head-length (a .file .now) (a .x) (a .y) (a .z) (a .window .now) (a .w) (a .m) (a .e) (a .c) (pre .0) (pre .1) (pre .2) (tail .last .1 .1 .1 .1 .0) (tail .result) (rw (tail-part (a .m - a .w) (a .window .now)) at (tail .ensures)))
 
 add-singly-requires : tie.Need-add-singly-requires
 add-singly-requires c κs =
     let a = c .before .before .before .before .before .before .before .args in
     let pre = c .before .before .before .before .before .before .before .pre in
     let tail = c .before .before .before .add-shown in
-    rw (tail-back (a .m - a .w) (a .window .now) (tail .last .1 .1 .1 .0))
-    (head-asks (a .file .now) (a .x) (a .y) (a .window .now) (a .w) (a .m) (a .e) (a .c) (a .d) (pre .0) (pre .1) (pre .2) (tail .last .1 .1 .1 .0) (tail .result .first)
-    (tail .result .second) (rw (tail-part (a .m - a .w) (a .window .now)) at (tail .ensures)))
+    rw (tail-back (a .m - a .w) (a .window .now) (tail .last .1 .1 .1 .1 .0))
+    (head-asks (a .file .now) (a .x) (a .y) (a .z) (a .window .now) (a .w) (a .m) (a .e) (a .c) (pre .0) (pre .1) (pre .2) (tail .last .1 .1 .1 .1 .0) (tail .result) (rw (tail-part (a .m - a .w) (a .window .now)) at (tail .ensures)))
 
 same-length : tie.Need-same-length
 same-length c = search needs
@@ -61,10 +59,9 @@ returns c =
     let pre = c .before .before .before .before .before .before .before .before .before .before .pre in
     let tail = c .before .before .before .before .before .before .add-shown in
     let head = c .before .before .add-singly in
-    rw (tail-back (a .m - a .w) (a .window .now) (tail .last .1 .1 .1 .0))
-    (parts-added (a .file .now) (a .x) (a .y) (a .window .now) (a .w) (a .m) (a .e) (a .c) (a .d) (pre .0) (pre .1) (pre .2) (tail .last .1 .1 .1 .0) (tail .result .first)
-    (tail .result .second) (rw (tail-part (a .m - a .w) (a .window .now)) at (tail .ensures)) (head .last .1 .1 .1 .0) (head .result .first) (head .result .second)
-    (rw (tail-back (a .m - a .w) (a .window .now) (tail .last .1 .1 .1 .0)) at (head .ensures)))
+    rw (tail-back (a .m - a .w) (a .window .now) (tail .last .1 .1 .1 .1 .0))
+    (parts-added (a .file .now) (a .x) (a .y) (a .z) (a .window .now) (a .w) (a .m) (a .e) (a .c) (pre .0) (pre .1) (pre .2) (tail .last .1 .1 .1 .1 .0) (tail .result) (rw (tail-part (a .m - a .w) (a .window .now)) at (tail .ensures)) (head .last .1 .1 .1 .1 .0) (head .result)
+    (rw (tail-back (a .m - a .w) (a .window .now) (tail .last .1 .1 .1 .1 .0)) at (head .ensures)))
 
 pub add-from-spec : {M : Type 1} → statement M
 add-from-spec =

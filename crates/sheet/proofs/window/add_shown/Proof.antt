@@ -1,7 +1,7 @@
--- `sheet::window::add_shown` meets its contract: both streams' rounds are runs that show. Assumes nothing.
+-- `sheet::window::add_shown` meets its contract: the streams' rounds are runs that show. Assumes nothing.
 use native.Mathlib.Omega.{arith}
 use borrow.Author.Needs.{needs}
-use Rattle.sheet.specs.Two.{both-asks, added-both}
+use Rattle.sheet.specs.Three.{three-asks, added-three}
 use Rattle.sheet.proofs.window.add_shown.Statement.{statement}
 use Rattle.sheet.proofs.window.add_shown.Tie as tie
 
@@ -11,25 +11,29 @@ run-from-requires c κs = omega (arith, c .before .before .before .pre .1 .from)
 run-from-requires-2 : tie.Need-run-from-requires-2
 run-from-requires-2 c κs = omega (arith, c .before .before .before .before .pre .2 .from)
 
-sub-add-both : tie.Need-sub-add-both
-sub-add-both c = search needs
+run-from-requires-3 : tie.Need-run-from-requires-3
+run-from-requires-3 c κs = omega (arith, c .before .before .before .before .before .pre .3 .from)
 
-add-both-requires : tie.Need-add-both-requires
-add-both-requires c κs =
-    let a = c .before .before .before .before .before .args in
-    rw (c .before .run-from .ensures, c .run-from2 .ensures)
-    (both-asks (a .file .now) (a .x) (a .y) (a .window .now) (a .w) (a .e) (a .c) (a .d) (c .before .before .before .before .before .pre .0) (c .before .before .before .before .before .pre .1) (c .before .before .before .before .before .pre .2))
+sub-add-three : tie.Need-sub-add-three
+sub-add-three c = search needs
+
+add-three-requires : tie.Need-add-three-requires
+add-three-requires c κs =
+    let start = c .before .before .before .before .before .before in
+    let a = start .args in
+    rw (c .before .before .run-from .ensures, c .before .run-from2 .ensures, c .run-from3 .ensures)
+    (three-asks (a .file .now) (a .x) (a .y) (a .z) (a .window .now) (a .w) (a .e) (a .c) (start .pre .0) (start .pre .1) (start .pre .2) (start .pre .3))
 
 same-length : tie.Need-same-length
 same-length c = search needs
 
 returns : tie.Need-returns
 returns c =
-    let a = c .before .before .before .before .before .before .before .before .args in
-    let both = c .before .before .add-both in
-    let is = rw (c .before .before .before .before .run-from .ensures, c .before .before .before .run-from2 .ensures) at (both .ensures) in
-    added-both (a .file .now) (a .x) (a .y) (a .window .now) (a .w) (a .e) (a .c) (a .d) (c .before .before .before .before .before .before .before .before .pre .0) (c .before .before .before .before .before .before .before .before .pre .1) (c .before .before .before .before .before .before .before .before .pre .2) (both .last .0) (both .result .first)
-    (both .result .second) (is .0) (is .1) (is .2)
+    let start = c .before .before .before .before .before .before .before .before .before in
+    let a = start .args in
+    let three = c .before .before .add-three in
+    let is = rw (c .before .before .before .before .before .run-from .ensures, c .before .before .before .before .run-from2 .ensures, c .before .before .before .run-from3 .ensures) at (three .ensures) in
+    added-three (a .file .now) (a .x) (a .y) (a .z) (a .window .now) (a .w) (a .e) (a .c) (start .pre .0) (start .pre .1) (start .pre .2) (start .pre .3) (three .last .0) (three .result) (is .0) (is .1) (is .2) (is .3)
 
 pub add-shown-spec : {M : Type 1} → statement M
 add-shown-spec =
@@ -37,7 +41,8 @@ add-shown-spec =
     (tie.spec
     run-from-requires
     run-from-requires-2
-    sub-add-both
-    add-both-requires
+    run-from-requires-3
+    sub-add-three
+    add-three-requires
     same-length
     returns)
