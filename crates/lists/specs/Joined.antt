@@ -1,13 +1,17 @@
 -- Many numbers joined by `|`: what the join tells of each. Assumes nothing.
 use mathlib.Core.Path.{_≡_, ap₂, _∙_}
 use mathlib.Core.Bool.{Bool, _&&_}
+use mathlib.Core.List.{List}
 use Prim.Native.Nat.{ℕ, _+_, _-_, _^_, _≤_, _<_}
 use native.Mathlib.Decide.{decLe}
 use native.Mathlib.Numerals.{add-one}
 use native.Mathlib.Omega.{arith}
 use lib.Dec.{leb}
+use lib.ListN.{getD}
 use lib.Bits.{bitOr, or-add-and, and-le-l, and-le-r, or-lt}
+use borrow.Author.Count.{below-more}
 use borrow.Author.Tests.{le-leb, lt-leb}
+use Rattle.limits.specs.Bounds.{maxBookings}
 use Rattle.laws.specs.Tests.{below}
 
 -- ---- a join that is 0
@@ -57,3 +61,22 @@ pub join-within : (f : ℕ → ℕ) (limit joined i : ℕ) → f i ≤ most → 
     → leb (bitOr joined (f i + (most - limit))) most ≡ below (i + 1) (λ k. leb (f k) limit)
 join-within f limit joined i h e =
     rw (add-one i) (or-most joined (f i + (most - limit)) ∙ ap₂ (λ (p q : Bool). p && q) (within-most (f i) limit h) e)
+
+-- ---- a join as a bound
+
+-- r is the join of the first n numbers as far as it bounds them: none exceeds it, and it is below 256 where all are
+pub record JoinsTo (list : List ℕ) (n r : ℕ) : Type 0 where
+  pub most : (k : ℕ) → k < n → getD list k 0 ≤ r
+  pub small : ((k : ℕ) → k < n → getD list k 0 < maxBookings) → r < maxBookings
+
+pub joins-none : (list : List ℕ) → JoinsTo list 0 0
+joins-none list = record { most = λ k h. absurd (omega arith); small = λ g. omega arith }
+
+pub joins-more : (list : List ℕ) (i r : ℕ) → JoinsTo list i r → JoinsTo list (i + 1) (bitOr r (getD list i 0))
+joins-more list i r j =
+    let x = getD list i 0 in
+    let both = or-add-and r x in
+    record {
+      most = below-more _ i (λ k h. omega (arith, j .most k h, both, and-le-r r x)) (omega (arith, both, and-le-l r x));
+      small = λ g. or-lt 8 r x (j .small (λ k h. g k (omega arith))) (g i (omega arith));
+    }

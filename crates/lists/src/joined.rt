@@ -6,6 +6,7 @@ ghost use Prim.Native.Nat.{ℕ, _^_, _<_};
 ghost use lib.Dec.{leb};
 ghost use lib.ListN.{length, getD};
 ghost use Rattle.laws.specs.Tests.{below};
+ghost use Rattle.lists.specs.Joined.{JoinsTo};
 
 // the largest number below 2^63
 const MOST: u64 = 9223372036854775807;
@@ -34,4 +35,17 @@ pub fn all_within(list: &[u64], limit: u64) -> bool
         i += 1;
     }
     joined <= MOST
+}
+
+// All places joined.
+pub fn join(list: &[u64]) -> u64
+    ensures { λ r. ⌜ JoinsTo (now (list .entry)) (length (now (list .entry))) r ⌝ }
+{
+    let mut joined: u64 = 0;
+    let mut i = 0;
+    while i < list.len() {
+        joined = joined | list[i];
+        i += 1;
+    }
+    joined
 }

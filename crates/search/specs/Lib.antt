@@ -5,6 +5,7 @@ pub mod FitLaws
 pub mod WindowLaws
 pub mod StepLaws
 pub mod CabLaws
+pub mod DiskLaws
 pub mod MemoryLaws
 pub mod Blocks
 pub mod ProfileLaws

@@ -4,8 +4,8 @@ use mathlib.Core.List.{List, _∷_, _++_, append-assoc}
 use Prim.Native.Nat.{ℕ, zero, suc, _+_, _-_, _≤_, _<_}
 use native.Mathlib.Omega.{arith}
 use lib.Dec.{leb}
-use lib.ListN.{length, take, drop, replicate, length-append, length-drop}
-use lib.Seq.{take-at, drop-at, drop-drop}
+use lib.ListN.{length, take, drop, replicate, length-append, length-drop, length-replicate, take-append-drop, replicate-append-replicate}
+use lib.Seq.{take-at, drop-at, drop-drop, length-take-le}
 use borrow.Author.Tests.{le-leb, lt-leb}
 use borrow.Rule.Slice.PartMut.{midOf, putMid, mid-len, post-is}
 use Rattle.lists.specs.Rows.{Row}
@@ -91,6 +91,77 @@ worked-length f n old h = omega (arith, length-append (perRound f 0 n) (drop n o
 pub part-level : (n m v : ℕ) (l : List ℕ) → n ≤ m → m ≤ length l
     → putMid n (m - n) l (replicate (length (midOf n (m - n) l)) v) ≡ levelled n m v l
 part-level n m v l h u = rw (mid-len n m l u, post-is n m l h)
+
+-- ---- two lists filled block by block
+
+level-none : (n v : ℕ) (l : List ℕ) → levelled n n v l ≡ l
+level-none n v l =
+    let none : n - n ≡ 0 = omega arith in
+    ap (λ (k : ℕ). take n l ++ (replicate k v ++ drop n l)) none ∙ take-append-drop n l
+
+pub level-length : (n m v : ℕ) (l : List ℕ) → n ≤ m → m ≤ length l → length (levelled n m v l) ≡ length l
+level-length n m v l h u =
+    omega (
+      arith,
+      length-append (take n l) (replicate (m - n) v ++ drop m l),
+      length-append (replicate (m - n) v) (drop m l),
+      length-take-le n l (omega arith),
+      length-replicate (m - n) v,
+      length-drop m l,
+    )
+
+level-more : (n a b v : ℕ) (l : List ℕ) → n ≤ a → a ≤ b → a ≤ length l → levelled a b v (levelled n a v l) ≡ levelled n b v l
+level-more n a b v l h u w =
+    let size : length (take n l ++ replicate (a - n) v) ≡ a =
+    omega (arith, length-append (take n l) (replicate (a - n) v), length-take-le n l (omega arith), length-replicate (a - n) v) in
+    let split : levelled n a v l ≡ (take n l ++ replicate (a - n) v) ++ drop a l = sym (append-assoc (take n l) (replicate (a - n) v) (drop a l)) in
+    let first : take a (levelled n a v l) ≡ take n l ++ replicate (a - n) v = ap (take a) split ∙ take-at (take n l ++ replicate (a - n) v) (drop a l) a size in
+    let behind : drop a (levelled n a v l) ≡ drop a l = ap (drop a) split ∙ drop-at (take n l ++ replicate (a - n) v) (drop a l) a size in
+    let upto : a + (b - a) ≡ b = omega arith in
+    let last : drop b (levelled n a v l) ≡ drop b l =
+    ap (λ (k : ℕ). drop k (levelled n a v l)) (sym upto)
+    ∙ sym (drop-drop (b - a) a (levelled n a v l))
+    ∙ ap (drop (b - a)) behind
+    ∙ drop-drop (b - a) a l
+    ∙ ap (λ (k : ℕ). drop k l) upto in
+    let whole : (a - n) + (b - a) ≡ b - n = omega arith in
+    ap (λ (p : List ℕ). p ++ (replicate (b - a) v ++ drop b (levelled n a v l))) first
+    ∙ ap (λ (q : List ℕ). (take n l ++ replicate (a - n) v) ++ (replicate (b - a) v ++ q)) last
+    ∙ append-assoc (take n l) (replicate (a - n) v) (replicate (b - a) v ++ drop b l)
+    ∙ ap (λ (q : List ℕ). take n l ++ q) (sym (append-assoc (replicate (a - n) v) (replicate (b - a) v) (drop b l)))
+    ∙ ap (λ (q : List ℕ). take n l ++ (q ++ drop b l)) (replicate-append-replicate (a - n) (b - a) v)
+    ∙ ap (λ (k : ℕ). take n l ++ (replicate k v ++ drop b l)) whole
+
+-- the places from `from` to at - 1 are set in both lists
+pub record BothFilled (list₀ other₀ : List ℕ) (from until v w : ℕ) (list other : List ℕ) (at : ℕ) : Type 0 where
+  pub low : from ≤ at
+  pub high : at ≤ until
+  pub filled : list ≡ levelled from at v list₀
+  pub other-filled : other ≡ levelled from at w other₀
+
+module _ (list₀ other₀ : List ℕ) (from until v w : ℕ) (h : from ≤ until) (places : until ≤ length list₀) (other-places : until ≤ length other₀) where
+  pub none-filled : BothFilled list₀ other₀ from until v w list₀ other₀ from
+  none-filled =
+      record { low = omega arith; high = h; filled = sym (level-none from v list₀); other-filled = sym (level-none from w other₀) }
+
+  module _ (list other : List ℕ) (at : ℕ) (g : BothFilled list₀ other₀ from until v w list other at) where
+    pub filled-length : length list ≡ length list₀
+    filled-length = ap length (g .filled) ∙ level-length from at v list₀ (g .low) (omega (arith, g .high))
+
+    pub other-length : length other ≡ length other₀
+    other-length = ap length (g .other-filled) ∙ level-length from at w other₀ (g .low) (omega (arith, g .high))
+
+    -- a block more of each
+    pub more-filled : (next : ℕ) (list′ other′ : List ℕ) → at ≤ next → next ≤ until → list′ ≡ levelled at next v list
+        → other′ ≡ levelled at next w other → BothFilled list₀ other₀ from until v w list′ other′ next
+    more-filled next list′ other′ l u p q =
+        record {
+          low = omega (arith, g .low);
+          high = u;
+          filled = p ∙ ap (levelled at next v) (g .filled) ∙ level-more from at next v list₀ (g .low) l (omega (arith, g .high));
+          other-filled =
+              q ∙ ap (levelled at next w) (g .other-filled) ∙ level-more from at next w other₀ (g .low) l (omega (arith, g .high));
+        }
 
 -- ---- both lists
 

@@ -1,6 +1,7 @@
 // A list by round compared with what is held, from the last round to the first. From the first difference on what is held is written
 // over the numbers lent, packed with them into the same places, so that a call that is refused can put these back.
 use lists::joined::difference;
+use lists::joined::join;
 ghost use mathlib.Core.Path.{_≡_};
 ghost use mathlib.Core.Bool.{true, false};
 ghost use mathlib.Core.Logic.{_⊎_};
@@ -61,27 +62,13 @@ fn empty_places(asked: bool, list: &[u64], a: usize, e: usize) -> bool
     joined == 0
 }
 
-// The first n places joined, which none of them exceeds.
-fn join(list: &[u64], n: usize) -> u64
-    requires { ⌜ n ≤ length (now list) ⌝ }
-    ensures { λ r. ⌜ ((k : ℕ) → k < n → getD (now (list .entry)) k 0 ≤ r) ⌝ }
-{
-    let mut joined: u64 = 0;
-    let mut i = 0;
-    while i < n {
-        joined = joined | list[i];
-        i += 1;
-    }
-    joined
-}
-
 // How the bytes held in the rounds below e, none above the memory limit, can be written over the numbers lent there and these put back: no
 // bits are kept where all are 0, as after a restart, and half of the bits where that is enough for both.
 fn pack_below(list: &[u64], e: usize, memory: u64) -> Compared
     requires { ⌜ e ≤ length (now list) ⌝ }
     ensures { λ r. ⌜ Ready memory r (now (list .entry)) e × (r .same ≡ true → r .packed .rounds ≡ e) × (r .same ≡ false → r .packed .rounds ≡ 0) ⌝ }
 {
-    let most = join(list, e);
+    let most = join(&list[..e]);
     if most == 0 {
         return Compared {
             same: true,

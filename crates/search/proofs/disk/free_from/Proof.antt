@@ -1,12 +1,13 @@
--- `search::disk::free_from` meets its contract. The invariant: the rounds from r on are free. The measure is what is left down to
--- a. Assumes nothing.
-use Prim.Native.Nat.{ℕ, _+_, _-_, _≤_, _<_}
-use mathlib.Core.Path.{_≡_, sym, _∙_}
+-- `search::disk::free_from` meets its contract. The invariant: the rounds from r on are free. The measure is what is left down to a. Assumes
+-- nothing.
+use Prim.Native.Nat.{ℕ, _-_, _≤_, _<_}
+use mathlib.Core.Path.{_≡_}
 use mathlib.Core.Bool.{true}
 use native.Mathlib.Omega.{arith}
 use borrow.Author.Needs.{needs}
 use Rattle.search.specs.Fit.{diskFits}
-use Rattle.search.specs.FitLaws.{pass-more}
+use Rattle.search.specs.FitLaws.{fewer-disk}
+use Rattle.search.specs.DiskLaws.{free-within, block-passes}
 use Rattle.search.proofs.disk.free_from.Statement.{statement}
 use Rattle.search.proofs.disk.free_from.Tie as tie
 
@@ -19,55 +20,36 @@ abbrev μ-loop : tie.MeasureT-loop
 loop-holds : tie.Need-loop-holds Inv-loop μ-loop
 loop-holds c = (search needs, search needs, λ t h k. absurd (omega arith))
 
-sub-t : tie.Need-sub-t Inv-loop μ-loop
-sub-t c = search needs
+block-from-requires : tie.Need-block-from-requires Inv-loop μ-loop
+block-from-requires c κs = search needs
 
-mul-takes : tie.Need-mul-takes Inv-loop μ-loop
-mul-takes c = search needs
-
-shared-slice-read-takes : tie.Need-shared-slice-read-takes Inv-loop μ-loop
-shared-slice-read-takes c = search needs
-
-mul-takes-2 : tie.Need-mul-takes-2 Inv-loop μ-loop
-mul-takes-2 c = search needs
-
-shared-slice-read-takes-2 : tie.Need-shared-slice-read-takes-2 Inv-loop μ-loop
-shared-slice-read-takes-2 c = search needs
-
-takes-requires : tie.Need-takes-requires Inv-loop μ-loop
-takes-requires c κs =
-    let start = c .before .before .before .before .before .before .before in
-    let rows = start .pre .1 in
-    let t = c .before .before .before .loop .r - 1 in
-    (start .pre .0, rows .opens-small t (omega arith), rows .reserves-small t (omega arith), omega arith)
-
-loop-less : tie.Need-loop-less Inv-loop μ-loop
-loop-less c = search needs
-
-loop-again : tie.Need-loop-again Inv-loop μ-loop
-unfolding diskFits
-loop-again c =
-    let l = c .before .before .before .before .before .loop in
-    let a = c .before .before .before .before .before .before .before .before .before .args in (
-      omega arith,
-      omega arith,
-      pass-more (diskFits (a .opens .now) (a .reserves .now) (a .disk) (a .b)) (l .r) (a .e) (l .inv .2) (sym (c .before .takes .ensures) ∙ c .if1 .taken),
-    )
-
-add-result : tie.Need-add-result Inv-loop μ-loop
-add-result c = search needs
+free-block-requires : tie.Need-free-block-requires Inv-loop μ-loop
+free-block-requires c κs =
+    let start = c .before .before .before .before .before .before in
+    let l = c .before .before .loop in
+    let a = start .args in
+    (start .pre .0, fewer-disk (l .r) (l .inv .1) (start .pre .1), start .pre .2, omega (arith, c .block-from .ensures))
 
 returns : tie.Need-returns Inv-loop μ-loop
-unfolding diskFits
 returns c =
-    let l = c .before .before .before .before .before .loop in
-    let same : l .r - 1 + 1 - 1 ≡ l .r - 1 = omega arith in
-    record {
-      low = omega arith;
-      high = omega arith;
-      pass = λ t h k. l .inv .2 t (omega arith) k;
-      blocked = λ h. rw same (sym (c .before .takes .ensures) ∙ c .if1 .left);
-    }
+    let start = c .before .before .before .before .before .before .before .before in
+    let a = start .args in
+    let l = c .before .before .before .before .loop in
+    let t = c .before .before .block-from in
+    let f = c .before .free-block in
+    free-within (diskFits (a .opens .now) (a .reserves .now) (a .disk) (a .b)) (a .a) (a .e) (l .r) (t .result) (t .ensures .0) (t .ensures .1) (l .inv .1) (l .inv .2) (f .result) (f .ensures) (c .if1 .taken)
+
+loop-less : tie.Need-loop-less Inv-loop μ-loop
+loop-less c = omega (arith, c .before .before .block-from .ensures)
+
+loop-again : tie.Need-loop-again Inv-loop μ-loop
+loop-again c =
+    let start = c .before .before .before .before .before .before .before .before in
+    let a = start .args in
+    let l = c .before .before .before .before .loop in
+    let t = c .before .before .block-from in
+    let f = c .before .free-block in
+    (t .ensures .0, omega (arith, t .ensures, l .inv .1), block-passes (diskFits (a .opens .now) (a .reserves .now) (a .disk) (a .b)) (a .a) (a .e) (l .r) (t .result) (t .ensures .0) (t .ensures .1) (l .inv .1) (l .inv .2) (f .result) (f .ensures) (omega (arith, c .if1 .left)))
 
 returns-2 : tie.Need-returns-2 Inv-loop μ-loop
 returns-2 c =
@@ -81,14 +63,9 @@ free-from-spec =
     Inv-loop
     μ-loop
     loop-holds
-    sub-t
-    mul-takes
-    shared-slice-read-takes
-    mul-takes-2
-    shared-slice-read-takes-2
-    takes-requires
+    block-from-requires
+    free-block-requires
+    returns
     loop-less
     loop-again
-    add-result
-    returns
     returns-2)

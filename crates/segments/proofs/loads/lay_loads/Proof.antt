@@ -24,82 +24,67 @@ sub-films : tie.Need-sub-films Inv-loop μ-loop
 sub-films c = c .before .before .before .loop .inv .passed .behind
 
 next-requires : tie.Need-next-requires Inv-loop μ-loop
-next-requires c κs =
-    let l = c .before .before .before .loop in
-    (c .before .before .before .before .before .before .before .before .pre .timeline, l .inv .passed, c .before .if1 .taken)
+next-requires c κs = let l = c .before .before .before .loop in (c .before .before .before .before .before .before .before .before .pre .timeline, l .inv .passed, c .before .if1 .taken)
 
-fill-part-requires : tie.Need-fill-part-requires Inv-loop μ-loop
-fill-part-requires c κs =
-    let start = c .before .before .before .before .before .before .before .before .before .before in
+fill-both-requires : tie.Need-fill-both-requires Inv-loop μ-loop
+fill-both-requires c κs =
+    let start = c .before .before .before .before .before .before .before .before .before .before .before in
     let a = start .args in
-    let l = c .before .before .before .before .before .loop in
-    let next = c .before .next in
+    let l = c .before .before .before .before .before .before .loop in
+    let next = c .before .before .next in
     let r = next .result in
-    let most = next-within (a .opened .now) (a .closed .now) (a .day-rounds) (a .opens .now) (a .reserves .now) (start .pre) (l .opens) (l .reserves) (l .at .opened) (l .at .closed) (l .at .reserve) (l .at .round) (l .inv) (r .opened) (r .closed) (r .reserve) (r .round) (next .ensures) (c .before .before .before .if1 .taken) in
-    (next .ensures .later, omega (arith, most, opens-length (a .opened .now) (a .closed .now) (a .day-rounds) (a .opens .now) (a .reserves .now) (start .pre) (l .opens) (l .reserves) (l .at .opened) (l .at .closed) (l .at .reserve) (l .at .round) (l .inv), start .pre .opens-places))
-
-fill-part-requires-2 : tie.Need-fill-part-requires-2 Inv-loop μ-loop
-fill-part-requires-2 c κs =
-    let start = c .before .before .before .before .before .before .before .before .before .before .before .before .before .before in
-    let a = start .args in
-    let l = c .before .before .before .before .before .before .before .before .before .loop in
-    let next = c .before .before .before .before .before .next in
-    let r = next .result in
-    let most = next-within (a .opened .now) (a .closed .now) (a .day-rounds) (a .opens .now) (a .reserves .now) (start .pre) (l .opens) (l .reserves) (l .at .opened) (l .at .closed) (l .at .reserve) (l .at .round) (l .inv) (r .opened) (r .closed) (r .reserve) (r .round) (next .ensures) (c .before .before .before .before .before .before .before .if1 .taken) in
-    (next .ensures .later, omega (arith, most, reserves-length (a .opened .now) (a .closed .now) (a .day-rounds) (a .opens .now) (a .reserves .now) (start .pre) (l .opens) (l .reserves) (l .at .opened) (l .at .closed) (l .at .reserve) (l .at .round) (l .inv), start .pre .reserves-places))
+    let most = next-within (a .opened .now) (a .closed .now) (a .day-rounds) (a .opens .now) (a .reserves .now) (start .pre) (l .opens) (l .reserves) (l .at .opened) (l .at .closed) (l .at .reserve) (l .at .round) (l .inv) (r .opened) (r .closed) (r .reserve) (r .round) (next .ensures) (c .before .before .before .before .if1 .taken) in (
+      next .ensures .later,
+      omega (arith, most, opens-length (a .opened .now) (a .closed .now) (a .day-rounds) (a .opens .now) (a .reserves .now) (start .pre) (l .opens) (l .reserves) (l .at .opened) (l .at .closed) (l .at .reserve) (l .at .round) (l .inv), start .pre .opens-places),
+      omega (arith, most, reserves-length (a .opened .now) (a .closed .now) (a .day-rounds) (a .opens .now) (a .reserves .now) (start .pre) (l .opens) (l .reserves) (l .at .opened) (l .at .closed) (l .at .reserve) (l .at .round) (l .inv), start .pre .reserves-places),
+    )
 
 loop-less : tie.Need-loop-less Inv-loop μ-loop
 loop-less c =
-    let next = c .before .before .before .before .before .before .before .before .next in
+    let next = c .before .before .before .before .before .before .before .next in
     omega (arith, next .ensures .one-more, next .ensures .passed .behind, next .ensures .passed .inside)
 
 loop-again : tie.Need-loop-again Inv-loop μ-loop
 loop-again c =
-    let start = c .before .before .before .before .before .before .before .before .before .before .before .before .before .before .before .before .before in
+    let start = c .before .before .before .before .before .before .before .before .before .before .before .before .before .before .before .before in
     let a = start .args in
-    let l = c .before .before .before .before .before .before .before .before .before .before .before .before .loop in
-    let next = c .before .before .before .before .before .before .before .before .next in
+    let l = c .before .before .before .before .before .before .before .before .before .before .before .loop in
+    let next = c .before .before .before .before .before .before .before .next in
     let r = next .result in
-    laid-next (a .opened .now) (a .closed .now) (a .day-rounds) (a .opens .now) (a .reserves .now) (start .pre) (l .opens) (l .reserves) (l .at .opened) (l .at .closed) (l .at .reserve) (l .at .round) (l .inv) (r .opened) (r .closed) (r .reserve) (r .round) (next .ensures) (c .before .before .before .before .before .before .before .before .before .before .if1 .taken)
-    (c .before .before .before .before .before .before .fill-part .last .0) (c .before .before .fill-part2 .last .0) (c .before .before .before .before .before .before .fill-part .ensures)
-    (c .before .before .fill-part2 .ensures)
+    let both = c .before .before .before .before .fill-both in
+    laid-next (a .opened .now) (a .closed .now) (a .day-rounds) (a .opens .now) (a .reserves .now) (start .pre) (l .opens) (l .reserves) (l .at .opened) (l .at .closed) (l .at .reserve) (l .at .round) (l .inv) (r .opened) (r .closed) (r .reserve) (r .round) (next .ensures) (c .before .before .before .before .before .before .before .before .before .if1 .taken) (both .last .0) (both .last .1 .0) (both .ensures .0) (both .ensures .1)
 
-fill-part-requires-3 : tie.Need-fill-part-requires-3 Inv-loop μ-loop
-fill-part-requires-3 c κs =
-    let start = c .before .before .before .before .before .before .before .before in
+fill-both-requires-2 : tie.Need-fill-both-requires-2 Inv-loop μ-loop
+fill-both-requires-2 c κs =
+    let start = c .before .before .before .before .before .before .before .before .before in
     let a = start .args in
-    let l = c .before .before .before .loop in
-    (l .inv .within, omega (arith, opens-length (a .opened .now) (a .closed .now) (a .day-rounds) (a .opens .now) (a .reserves .now) (start .pre) (l .opens) (l .reserves) (l .at .opened) (l .at .closed) (l .at .reserve) (l .at .round) (l .inv), start .pre .opens-places))
-
-fill-part-requires-4 : tie.Need-fill-part-requires-4 Inv-loop μ-loop
-fill-part-requires-4 c κs =
-    let start = c .before .before .before .before .before .before .before .before .before .before .before .before in
-    let a = start .args in
-    let l = c .before .before .before .before .before .before .before .loop in
-    (l .inv .within, omega (arith, reserves-length (a .opened .now) (a .closed .now) (a .day-rounds) (a .opens .now) (a .reserves .now) (start .pre) (l .opens) (l .reserves) (l .at .opened) (l .at .closed) (l .at .reserve) (l .at .round) (l .inv), start .pre .reserves-places))
+    let l = c .before .before .before .before .loop in (
+      l .inv .within,
+      omega (arith, opens-length (a .opened .now) (a .closed .now) (a .day-rounds) (a .opens .now) (a .reserves .now) (start .pre) (l .opens) (l .reserves) (l .at .opened) (l .at .closed) (l .at .reserve) (l .at .round) (l .inv), start .pre .opens-places),
+      omega (arith, reserves-length (a .opened .now) (a .closed .now) (a .day-rounds) (a .opens .now) (a .reserves .now) (start .pre) (l .opens) (l .reserves) (l .at .opened) (l .at .closed) (l .at .reserve) (l .at .round) (l .inv), start .pre .reserves-places),
+    )
 
 same-length : tie.Need-same-length Inv-loop μ-loop
 same-length c =
-    let start = c .before .before .before .before .before .before .before .before .before .before .before .before .before .before .before in
+    let start = c .before .before .before .before .before .before .before .before .before .before .before .before .before .before in
     let a = start .args in
-    let l = c .before .before .before .before .before .before .before .before .before .before .loop in
+    let l = c .before .before .before .before .before .before .before .before .before .loop in
     omega (arith, opens-length (a .opened .now) (a .closed .now) (a .day-rounds) (a .opens .now) (a .reserves .now) (start .pre) (l .opens) (l .reserves) (l .at .opened) (l .at .closed) (l .at .reserve) (l .at .round) (l .inv))
 
 same-length-2 : tie.Need-same-length-2 Inv-loop μ-loop
 same-length-2 c =
-    let start = c .before .before .before .before .before .before .before .before .before .before .before .before .before .before .before in
+    let start = c .before .before .before .before .before .before .before .before .before .before .before .before .before .before in
     let a = start .args in
-    let l = c .before .before .before .before .before .before .before .before .before .before .loop in
+    let l = c .before .before .before .before .before .before .before .before .before .loop in
     omega (arith, reserves-length (a .opened .now) (a .closed .now) (a .day-rounds) (a .opens .now) (a .reserves .now) (start .pre) (l .opens) (l .reserves) (l .at .opened) (l .at .closed) (l .at .reserve) (l .at .round) (l .inv))
 
 returns : tie.Need-returns Inv-loop μ-loop
 returns c =
-    let start = c .before .before .before .before .before .before .before .before .before .before .before .before .before .before .before in
+    let start = c .before .before .before .before .before .before .before .before .before .before .before .before .before .before in
     let a = start .args in
-    let l = c .before .before .before .before .before .before .before .before .before .before .loop in
-    laid-end (a .opened .now) (a .closed .now) (a .day-rounds) (a .opens .now) (a .reserves .now) (start .pre) (l .opens) (l .reserves) (l .at .opened) (l .at .closed) (l .at .reserve) (l .at .round) (l .inv) (c .before .before .before .before .before .before .before .before .if1 .left)
-    (c .before .before .before .before .before .before .fill-part3 .last .0) (c .before .before .fill-part4 .last .0) (c .before .before .before .before .before .before .fill-part3 .ensures)
-    (c .before .before .fill-part4 .ensures)
+    let l = c .before .before .before .before .before .before .before .before .before .loop in
+    let both = c .before .before .before .before .fill-both2 in
+    laid-end (a .opened .now) (a .closed .now) (a .day-rounds) (a .opens .now) (a .reserves .now) (start .pre) (l .opens) (l .reserves) (l .at .opened) (l .at .closed) (l .at .reserve) (l .at .round) (l .inv) (c .before .before .before .before .before .before .before .if1 .left) (both .last .0) (both .last .1 .0) (both .ensures .0) (both .ensures .1)
 
 pub lay-loads-spec : {M : Type 1} → statement M
 lay-loads-spec =
@@ -110,12 +95,10 @@ lay-loads-spec =
     loop-holds
     sub-films
     next-requires
-    fill-part-requires
-    fill-part-requires-2
+    fill-both-requires
     loop-less
     loop-again
-    fill-part-requires-3
-    fill-part-requires-4
+    fill-both-requires-2
     same-length
     same-length-2
     returns)
