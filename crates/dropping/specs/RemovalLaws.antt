@@ -7,7 +7,7 @@ use native.Mathlib.Numerals.{add-one}
 use native.Mathlib.Omega.{arith}
 use lib.Dec.{eqb}
 use lib.ListN.{length, getD, set, take, drop, length-append, length-drop}
-use lib.Seq.{slice, slice-cons, slice-empty, length-slice, paste, paste-zero, paste-suc, length-paste-head, getD-drop, drop-cons, set-at, take-suc, take-add, take-at, drop-at, length-take-le}
+use lib.Seq.{slice, slice-cons, slice-empty, length-slice, paste, paste-zero, paste-suc, length-paste-head, drop-paste, getD-drop, drop-cons, set-at, take-suc, take-add, take-at, drop-at, length-take-le}
 use borrow.Author.Tests.{eq-eqb, ne-eqb, lt-ltb, le-ltb}
 use Rattle.model.specs.Questions.{hasName}
 use Rattle.model.specs.Calls.{noBooking, without}
@@ -84,6 +84,17 @@ moved-more rows out i j b d p h q e =
 -- the m rows from k on
 part : (k m : ℕ) (l : List Booking) → k ≤ length l → take m (drop k l) ≡ slice k (k + m) l
 part k m l h = sym (ap (drop k) (take-add k m l) ∙ drop-at (take k l) (take m (drop k l)) k (length-take-le k l h))
+
+-- the place after the next still has what it had
+pub moved-later : (rows : List Booking) (i j : ℕ) (d : Booking) → i ≤ j → j + 1 < length rows → getD (moved rows i j) (j + 1) d ≡ getD rows (j + 1) d
+unfolding moved
+moved-later rows i j d p h =
+    let e1 : i + (j - i) ≡ j = omega arith in
+    let behind : drop j (moved rows i j) ≡ drop j rows =
+    ap (λ (k : ℕ). drop k (moved rows i j)) (sym e1)
+    ∙ drop-paste rows i (drop (suc i) rows) (j - i) (omega arith) (omega (arith, length-drop (suc i) rows))
+    ∙ ap (λ (k : ℕ). drop k rows) e1 in
+    sym (getD-drop j (moved rows i j) 1 d) ∙ ap (λ (l : List Booking). getD l 1 d) behind ∙ getD-drop j rows 1 d
 
 pub moved-closed : (rows out : List Booking) (i j n : ℕ) → i ≤ j → j + 1 ≡ n → n ≤ length rows → out ≡ moved rows i j
     → set out j noBooking ≡ closed i n rows

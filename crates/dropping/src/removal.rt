@@ -53,7 +53,7 @@ pub fn close_gap(rows: [Booking; MAX_BOOKINGS], count: usize, i: usize) -> [Book
     let mut out = rows;
     let mut j = i;
     while j + 1 < count {
-        let b = rows[j + 1];
+        let b = out[j + 1];
         out[j] = b;
         j += 1;
     }

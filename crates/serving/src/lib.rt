@@ -111,8 +111,7 @@ pub fn serve_bytes(
                     helds,
                     &mut out[used..],
                 );
-                let left = without(rows, day.count as usize, dropped.place);
-                rows = left;
+                rows = without(rows, day.count as usize, dropped.place);
                 day.count = dropped.count;
                 used += dropped.length;
                 from = 0;

@@ -1,19 +1,22 @@
 -- `dropping::removal::close_gap` meets its contract. The invariant: those from i + 1 up to j have moved down by one. The measure is what is
 -- left of the count. Assumes nothing.
-use mathlib.Core.Path.{_≡_, refl}
+use mathlib.Core.Path.{_≡_, ap, _∙_}
+use mathlib.Core.List.{List}
 use Prim.Native.Nat.{_+_, _-_, _≤_, _<_}
 use native.Mathlib.Omega.{arith}
 use borrow.Author.Needs.{needs}
-use lib.ListN.{length}
-use Rattle.dropping.specs.RemovalLaws.{moved, moved-none, moved-more, moved-closed}
+use lib.ListN.{length, getD}
+use Rattle.model.specs.Calls.{noBooking}
+use Rattle.model.specs.declared.Booking.{Booking}
+use Rattle.dropping.specs.RemovalLaws.{moved, moved-none, moved-more, moved-later, moved-closed}
 use Rattle.dropping.proofs.removal.close_gap.Statement.{statement}
 use Rattle.dropping.proofs.removal.close_gap.Tie as tie
 
 abbrev Inv-loop : tie.InvT-loop
-Inv-loop count i rows out₀ j₀ out j = (i ≤ j) × (j < count) × (out ≡ moved rows i j)
+Inv-loop count i out₀ j₀ out j = (i ≤ j) × (j < count) × (out ≡ moved out₀ i j)
 
 abbrev μ-loop : tie.MeasureT-loop
-μ-loop count i rows out₀ j₀ out j = count - j
+μ-loop count i out₀ j₀ out j = count - j
 
 loop-holds : tie.Need-loop-holds Inv-loop μ-loop
 loop-holds c = (omega arith, omega arith, moved-none _ _)
@@ -47,8 +50,11 @@ loop-again c =
     let a = c .before .before .before .args in
     let l = c .before .before .loop in
     let g : a .i ≤ l .j = omega arith in
-    let h : l .j + 1 < length (a .t1) = omega arith in
-    (omega arith, omega arith, moved-more _ _ _ _ _ _ g h (l .inv .2) refl)
+    let h : l .j + 1 < length (a .rows) = omega arith in (
+      omega arith,
+      omega arith,
+      moved-more _ _ _ _ _ noBooking g h (l .inv .2) (ap (λ (r : List Booking). getD r (l .j + 1) noBooking) (l .inv .2) ∙ moved-later (a .rows) (a .i) (l .j) noBooking g h),
+    )
 
 mul-out-2 : tie.Need-mul-out-2 Inv-loop μ-loop
 mul-out-2 c = search needs
@@ -61,7 +67,7 @@ returns c =
     let a = c .before .before .args in
     let l = c .before .loop in
     let g : a .i ≤ l .j = omega arith in
-    let h : a .count ≤ length (a .t1) = omega arith in
+    let h : a .count ≤ length (a .rows) = omega arith in
     let e : l .j + 1 ≡ a .count = omega arith in
     moved-closed _ _ _ _ _ g e h (l .inv .2)
 
