@@ -213,6 +213,15 @@ small-parts s from (suc a) b =
     ∙ sym (and-assoc (leb (size s from) maxSize) (smallSizes s (from + 4) a) (smallSizes s (from + 4 + 4 * a) b))
     ∙ ap (λ at. (leb (size s from) maxSize && smallSizes s (from + 4) a) && smallSizes s at b) e)
 
+-- the next k of the n - i left, and those after them
+pub small-front : (s : List ℕ) (from n i k : ℕ) → k ≤ n - i
+    → smallSizes s (from + 4 * i) (n - i) ≡ smallSizes s (from + 4 * i) k && smallSizes s (from + 4 * (i + k)) (n - (i + k))
+small-front s from n i k h =
+    let z : n - i ≡ k + (n - (i + k)) = omega arith in
+    let f : from + 4 * i + 4 * k ≡ from + 4 * (i + k) = omega arith in
+    ap (smallSizes s (from + 4 * i)) z ∙ small-parts s (from + 4 * i) k (n - (i + k))
+    ∙ ap (λ at. smallSizes s (from + 4 * i) k && smallSizes s at (n - (i + k))) f
+
 -- the first k of n, those after them but for the last, and the last
 pub small-split : (s : List ℕ) (from n k : ℕ) → k < n
     → smallSizes s from n ≡ smallSizes s from k && (smallSizes s (from + 4 * k) (n - 1 - k) && smallSizes s (from + 4 * (n - 1)) 1)

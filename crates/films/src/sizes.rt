@@ -16,6 +16,9 @@ use limits::refusals::TRUNCATED;
 // sizes that are joined as they stand
 const FEW: usize = 8;
 
+// sizes of a block
+const BLOCK: usize = 64;
+
 // Are n sizes within the bound? Each is exactly if their join is, and a loop without a test becomes vector code.
 fn join_small(file: &[u8], from: usize, n: usize) -> bool
     requires { ⌜ from + 4 * n ≤ length (now file) ⌝ }
@@ -45,6 +48,21 @@ fn middles_small(file: &[u8], from: usize, n: usize) -> bool
     joined / 256 % 256 == 0
 }
 
+// `middles_small` by blocks: a block's loop has so many turns that the compiler writes them out one after the other.
+fn blocks_small(file: &[u8], from: usize, n: usize) -> bool
+    requires { ⌜ from + 4 * n + 2 ≤ length (now file) ⌝ }
+    ensures { λ r. ⌜ r ≡ smallSizes (now (file .entry)) from n ⌝ }
+{
+    let mut i = 0;
+    while BLOCK <= n - i {
+        if !middles_small(file, from + 4 * i, BLOCK) {
+            return false;
+        }
+        i += BLOCK;
+    }
+    middles_small(file, from + 4 * i, n - i)
+}
+
 // Are n sizes within the bound? Sizes begin two bytes past a multiple of 4. From a size on whose middle is at a multiple of 16 up to
 // the last but one, middles are joined: 16 bytes read there lie in one line of the cache, wherever a file begins at a multiple of 16.
 fn small(file: &[u8], from: usize, n: usize) -> bool
@@ -59,7 +77,7 @@ fn small(file: &[u8], from: usize, n: usize) -> bool
     if !join_small(file, from, first) {
         return false;
     }
-    if !middles_small(file, from + 4 * first, last - first) {
+    if !blocks_small(file, from + 4 * first, last - first) {
         return false;
     }
     join_small(file, from + 4 * last, 1)

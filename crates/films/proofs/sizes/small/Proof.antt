@@ -33,17 +33,17 @@ returns-2 c =
     let first = 3 - (a .from + 1) % 16 / 4 in
     sym (small-split (a .file .now) (a .from) (a .n) first (omega arith) ∙ rw (sym (c .before .join-small2 .ensures) ∙ not-true _ (c .if2 .taken)))
 
-mul-middles-small : tie.Need-mul-middles-small
-mul-middles-small c = search needs
+mul-blocks-small : tie.Need-mul-blocks-small
+mul-blocks-small c = search needs
 
-add-middles-small : tie.Need-add-middles-small
-add-middles-small c = search needs
+add-blocks-small : tie.Need-add-blocks-small
+add-blocks-small c = search needs
 
-sub-middles-small : tie.Need-sub-middles-small
-sub-middles-small c = search needs
+sub-blocks-small : tie.Need-sub-blocks-small
+sub-blocks-small c = search needs
 
-middles-small-requires : tie.Need-middles-small-requires
-middles-small-requires c κs = omega (arith, c .before .before .before .before .pre)
+blocks-small-requires : tie.Need-blocks-small-requires
+blocks-small-requires c κs = omega (arith, c .before .before .before .before .pre)
 
 returns-3 : tie.Need-returns-3
 returns-3 c =
@@ -51,7 +51,7 @@ returns-3 c =
     let first = 3 - (a .from + 1) % 16 / 4 in
     sym
     (small-split (a .file .now) (a .from) (a .n) first (omega arith)
-    ∙ rw (sym (c .before .before .before .join-small2 .ensures) ∙ not-false _ (c .before .before .if2 .left), sym (c .before .middles-small .ensures) ∙ not-true _ (c .if3 .taken)))
+    ∙ rw (sym (c .before .before .before .join-small2 .ensures) ∙ not-false _ (c .before .before .if2 .left), sym (c .before .blocks-small .ensures) ∙ not-true _ (c .if3 .taken)))
 
 mul-join-small : tie.Need-mul-join-small
 mul-join-small c = search needs
@@ -69,7 +69,7 @@ returns-4 c =
     c .join-small3 .ensures
     ∙ sym
     (small-split (a .file .now) (a .from) (a .n) first (omega arith)
-    ∙ rw (sym (c .before .before .before .before .join-small2 .ensures) ∙ not-false _ (c .before .before .before .if2 .left), sym (c .before .before .middles-small .ensures) ∙ not-false _ (c .before .if3 .left)))
+    ∙ rw (sym (c .before .before .before .before .join-small2 .ensures) ∙ not-false _ (c .before .before .before .if2 .left), sym (c .before .before .blocks-small .ensures) ∙ not-false _ (c .before .if3 .left)))
 
 pub small-spec : {M : Type 1} → statement M
 small-spec =
@@ -82,10 +82,10 @@ small-spec =
     sub-last
     join-small-requires-2
     returns-2
-    mul-middles-small
-    add-middles-small
-    sub-middles-small
-    middles-small-requires
+    mul-blocks-small
+    add-blocks-small
+    sub-blocks-small
+    blocks-small-requires
     returns-3
     mul-join-small
     add-join-small
