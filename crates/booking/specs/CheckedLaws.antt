@@ -21,11 +21,11 @@ use Rattle.load.specs.Stream.{lengthOf}
 use Rattle.load.specs.declared.stream.Stream.{Stream}
 use Rattle.table.specs.Columns.{tableWords}
 use Rattle.table.specs.Streams.{streams}
-use Rattle.sheet.specs.Memory.{Agrees}
-use Rattle.sheet.specs.Packed.{upper, heldsOf, lentOf, Settled}
-use Rattle.sheet.specs.PackedLaws.{length-front, settled-length}
+use Rattle.windows.specs.Memory.{Agrees}
+use Rattle.windows.specs.Packed.{upper, heldsOf, lentOf, Settled}
+use Rattle.windows.specs.PackedLaws.{length-front, settled-length}
 use Rattle.sheet.specs.Sheet.{Lays, Laid}
-use Rattle.sheet.specs.declared.packed.Packed.{Packed}
+use Rattle.windows.specs.declared.packed.Packed.{Packed}
 use Rattle.questions.specs.Given.{settingAt}
 use Rattle.questions.specs.Events.{Gathered}
 use Rattle.questions.specs.ListSound.{StreamsOf, tabled-streams}

@@ -22,8 +22,8 @@ use Rattle.load.specs.declared.stream.Stream.{Stream}
 use Rattle.table.specs.Columns.{tableWords}
 use Rattle.table.specs.Streams.{streams}
 use Rattle.table.specs.Table.{Tabled}
-use Rattle.sheet.specs.Packed.{heldsOf, Packable, Settled}
-use Rattle.sheet.specs.declared.packed.Packed.{Packed}
+use Rattle.windows.specs.Packed.{heldsOf, Packable, Settled}
+use Rattle.windows.specs.declared.packed.Packed.{Packed}
 use Rattle.questions.specs.Given.{settingAt}
 use Rattle.questions.specs.Events.{Gathered}
 use Rattle.questions.specs.Listed.{Workspace}

@@ -30,10 +30,10 @@ use Rattle.model.specs.declared.Answer.the-variants.{Refused, Booked}
 use Rattle.load.specs.Stream.{noStream, lengthOf, profileOf}
 use Rattle.load.specs.Basic.{Playable, Within, EachOf}
 use Rattle.load.specs.declared.stream.Stream.{Stream}
-use Rattle.sheet.specs.Memory.{Agrees}
-use Rattle.sheet.specs.Packed.{lentOf, Settled}
-use Rattle.sheet.specs.PackedLaws.{settled-length}
-use Rattle.sheet.specs.declared.packed.Packed.{Packed}
+use Rattle.windows.specs.Memory.{Agrees}
+use Rattle.windows.specs.Packed.{lentOf, Settled}
+use Rattle.windows.specs.PackedLaws.{settled-length}
+use Rattle.windows.specs.declared.packed.Packed.{Packed}
 use Rattle.sheet.specs.Sheet.{Laid, Lays, Places, Raises, Raised}
 use Rattle.sheet.specs.LaidLaws.{length-worked, laid-raises, laid-raised}
 use Rattle.search.specs.Fit.{queryOf, startAt, fitsAt, answerOf, Window}

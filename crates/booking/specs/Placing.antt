@@ -31,11 +31,11 @@ use Rattle.load.specs.Stream.{lengthOf, profileOf}
 use Rattle.table.specs.Streams.{streams}
 use Rattle.table.specs.Table.{Tabled}
 use Rattle.load.specs.declared.stream.Stream.{Stream}
-use Rattle.sheet.specs.Packed.{heldsOf, Settled}
+use Rattle.windows.specs.Packed.{heldsOf, Settled}
 use Rattle.sheet.specs.Sheet.{Laid, Raises, Raised}
-use Rattle.sheet.specs.PackedLaws.{unpacked-length, unpacked-laid}
-use Rattle.sheet.specs.declared.packed.Packed.{Packed}
-use Rattle.sheet.specs.LaidLaws.{length-worked}
+use Rattle.windows.specs.PackedLaws.{unpacked-length}
+use Rattle.windows.specs.declared.packed.Packed.{Packed}
+use Rattle.sheet.specs.LaidLaws.{length-worked, unpacked-laid}
 use Rattle.search.specs.Fit.{Query, queryOf, startAt, fitsAt, answerOf, HeldRows, Window}
 use Rattle.search.specs.ProfileLaws.{profile-rows}
 use Rattle.search.specs.declared.Found.{Found}

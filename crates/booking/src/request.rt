@@ -72,7 +72,7 @@ fn stream_number(file: &[u8], y: Stream, profile: &mut [u64]) -> u32
     if y.cabs == 0 {
         return NO_CAB;
     }
-    if !retrieval::write_profile(profile, file, y.at, y.rounds, y.prefetch, y.reserve) {
+    if !profiles::write_profile(profile, file, y.at, y.rounds, y.prefetch, y.reserve) {
         return NO_SCHEDULE;
     }
     0

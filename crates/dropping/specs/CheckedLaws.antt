@@ -27,12 +27,12 @@ use Rattle.load.specs.Streams.{streamOf}
 use Rattle.table.specs.Columns.{tableWords}
 use Rattle.table.specs.Streams.{streams}
 use Rattle.table.specs.Table.{streamAt, Tabled}
-use Rattle.sheet.specs.Memory.{Agrees}
-use Rattle.sheet.specs.Packed.{upper, heldsOf, lentOf, Settled}
+use Rattle.windows.specs.Memory.{Agrees}
+use Rattle.windows.specs.Packed.{upper, heldsOf, lentOf, Settled}
 use Rattle.sheet.specs.Sheet.{Lays, Laid}
-use Rattle.sheet.specs.LaidLaws.{length-worked}
-use Rattle.sheet.specs.PackedLaws.{length-front, settled-length, unpacked-length, unpacked-laid}
-use Rattle.sheet.specs.declared.packed.Packed.{Packed}
+use Rattle.sheet.specs.LaidLaws.{length-worked, unpacked-laid}
+use Rattle.windows.specs.PackedLaws.{length-front, settled-length, unpacked-length}
+use Rattle.windows.specs.declared.packed.Packed.{Packed}
 use Rattle.questions.specs.Given.{settingAt}
 use Rattle.questions.specs.Numbers.{standingAsks}
 use Rattle.questions.specs.Standing.{Standing, standing-held}

@@ -10,8 +10,8 @@ use Rattle.model.specs.declared.Booking.{Booking}
 use Rattle.model.specs.declared.Day.{Day}
 use Rattle.table.specs.Streams.{streams}
 use Rattle.table.specs.Table.{Tabled}
-use Rattle.sheet.specs.Packed.{heldsOf, Packable}
-use Rattle.sheet.specs.declared.packed.Packed.{Packed}
+use Rattle.windows.specs.Packed.{heldsOf, Packable}
+use Rattle.windows.specs.declared.packed.Packed.{Packed}
 use Rattle.questions.specs.Given.{settingAt}
 use Rattle.questions.specs.Numbers.{standingAsks}
 use Rattle.questions.specs.Events.{Gathered}

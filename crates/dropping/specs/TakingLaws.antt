@@ -18,9 +18,9 @@ use Rattle.model.specs.CodeLaws.{perRound-at}
 use Rattle.load.specs.Stream.{lengthOf, openIn, holdsIn, profileOf}
 use Rattle.load.specs.StreamLaws.{open-within}
 use Rattle.load.specs.declared.stream.Stream.{Stream}
-use Rattle.sheet.specs.Parts.{share, share-before}
+use Rattle.windows.specs.Parts.{share, share-before}
 use Rattle.sheet.specs.SheetLaws.{flat-share, held-share}
-use Rattle.sheet.specs.WindowLaws.{holds-within}
+use Rattle.windows.specs.WindowLaws.{holds-within}
 use Rattle.dropping.specs.Taking.{less, AtLeast, lowered}
 
 -- ---- shares taken from the first places, one by one

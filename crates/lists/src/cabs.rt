@@ -1,7 +1,8 @@
 // Cabs that show no two films at once.
+use crate::blocks::block_end;
 ghost use mathlib.Core.Path.{_≡_};
 ghost use mathlib.Core.Bool.{true, false, not};
-ghost use Prim.Native.Nat.{_<_, _≤_, min, max};
+ghost use Prim.Native.Nat.{min, max};
 ghost use Rattle.laws.specs.Tests.{all};
 ghost use Rattle.lists.specs.Rows.{Row, rows};
 ghost use Rattle.lists.specs.Cabs.{rowOf, CabColumns, rowsClash, rowsClear, rowsApart};
@@ -146,18 +147,6 @@ fn apart(
     true
 }
 
-// Where the block that begins at place i ends.
-fn block_end(i: usize, length: usize) -> usize
-    requires { ⌜ i < length ⌝ }
-    ensures { λ r. ⌜ (i < r) × (r ≤ length) ⌝ }
-{
-    if length - i < BLOCK {
-        length
-    } else {
-        i + BLOCK
-    }
-}
-
 // Whether no two of the list clash: block by block, first within it and then against all after it.
 pub fn all_clear(cabs: &[u64], shows: &[u32], ends: &[u32]) -> bool
     requires { ⌜ CabColumns (now cabs) (now shows) (now ends) ⌝ }
@@ -165,7 +154,7 @@ pub fn all_clear(cabs: &[u64], shows: &[u32], ends: &[u32]) -> bool
 {
     let mut i = 0;
     while i < cabs.len() {
-        let next = block_end(i, cabs.len());
+        let next = block_end(i, cabs.len(), BLOCK);
         if !pairs_clear(&cabs[i..next], &shows[i..next], &ends[i..next]) {
             return false;
         }

@@ -1,4 +1,5 @@
 // Tests of whole lists of numbers: names that differ, cabs that are clear, numbers within a limit.
+pub mod blocks;
 pub mod cabs;
 pub mod joined;
 pub mod names;

@@ -1,12 +1,16 @@
 -- Laws of a stream's rounds. Assumes nothing.
 use mathlib.Core.Path.{_≡_, sym, _∙_}
 use mathlib.Core.Bool.{Bool, true, false, cond}
-use Prim.Native.Nat.{ℕ, _-_, _≤_, _<_}
+use mathlib.Core.List.{List, [], _∷_, _++_}
+use Prim.Native.Nat.{ℕ, _+_, _-_, _≤_, _<_}
+use native.Mathlib.Numerals.{add-one}
 use native.Mathlib.Omega.{arith}
+use lib.ListN.{length, getD, take}
+use lib.Seq.{take-suc}
 use lib.Dec.{leb, ltb}
 use borrow.Author.Tests.{lt-ltb, le-ltb, le-leb, lt-leb, ltb-true, leb-true}
 use Rattle.laws.specs.Tests.{left, right}
-use Rattle.load.specs.Stream.{endOf, openIn}
+use Rattle.load.specs.Stream.{endOf, openIn, total}
 use Rattle.load.specs.Lists.{ltb-same}
 use Rattle.load.specs.declared.stream.Stream.{Stream}
 
@@ -43,3 +47,14 @@ open-counted t x h k =
 pub cond-most : (v : Bool) (a m : ℕ) → a ≤ m → cond v a 0 ≤ m
 cond-most true a m h = h
 cond-most false a m h = omega arith
+
+-- ---- a total of a list with one more
+
+pub total-append : (g : Stream → ℕ) (xs ys : List Stream) → total g (xs ++ ys) ≡ total g xs + total g ys
+total-append g [] ys = omega arith
+total-append g (x ∷ xs) ys = omega (arith, total-append g xs ys)
+
+pub total-take : (g : Stream → ℕ) (xs : List Stream) (i : ℕ) (d : Stream) → i < length xs
+    → total g (take (i + 1) xs) ≡ total g (take i xs) + g (getD xs i d)
+total-take g xs i d h =
+    rw (add-one, take-suc xs i d) (omega (arith, total-append g (take i xs) (getD xs i d ∷ [])))

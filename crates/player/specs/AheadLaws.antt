@@ -16,7 +16,7 @@ use Rattle.load.specs.Basic.{Playable}
 use Rattle.load.specs.Stream.{endOf, openIn, holdsIn, carryFrom}
 use Rattle.load.specs.StreamLaws.{open-early, open-late}
 use Rattle.load.specs.declared.stream.Stream.{Stream}
-use Rattle.sheet.specs.Memory.{Windowed, Added}
+use Rattle.windows.specs.Memory.{Windowed, Added}
 use Rattle.table.specs.Rows.{MovedDown}
 use Rattle.table.specs.Table.{rowWords, withRow, streamAt}
 use Rattle.player.specs.Ahead.{Ahead, HeldBy, RowAhead, apartFrom}

@@ -1,10 +1,10 @@
 // What the bookings of a table hold in the rounds ahead, a row of words each: as many as the rounds ahead, at least.
 use load::stream::Stream;
+use profiles::clear::clear;
 use retrieval::carry_from;
-use retrieval::clear::clear;
-use sheet::window::window_add;
 use table::rows::move_down;
 use table::streams::stream_at;
+use windows::window::window_add;
 ghost use mathlib.Core.Path.{_≡_};
 ghost use Prim.Native.Nat.{_+_, _*_, _-_, _≤_, _<_};
 ghost use lib.ListN.{length};

@@ -10,7 +10,7 @@ use Rattle.model.specs.Calls.{perRound, workedOut}
 use Rattle.model.specs.PlacesLaws.{length-perRound}
 use Rattle.load.specs.Stream.{heldIn}
 use Rattle.load.specs.declared.stream.Stream.{Stream}
-use Rattle.sheet.specs.Memory.{Agrees}
+use Rattle.windows.specs.Memory.{Agrees}
 use Rattle.sheet.specs.LaidLaws.{worked-at, length-worked}
 
 pub agrees-worked : (f : List ℕ) (xs : List Stream) (l : List ℕ) (T : ℕ) → Agrees f xs l 0 T → l ≡ workedOut T (λ t. heldIn f t xs) l

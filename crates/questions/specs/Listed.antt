@@ -23,7 +23,7 @@ use Rattle.load.specs.declared.stream.Stream.{Stream}
 use Rattle.table.specs.Columns.{tableWords}
 use Rattle.table.specs.Streams.{streams, streams-at, streams-tabled}
 use Rattle.table.specs.Table.{Tabled}
-use Rattle.sheet.specs.declared.memory.Checked.{Checked}
+use Rattle.memory.specs.declared.Checked.{Checked}
 use Rattle.questions.specs.Given.{settingAt}
 use Rattle.questions.specs.Numbers.{soundHolds, standingAsks}
 use Rattle.questions.specs.SheetOf.{HeldKept}

@@ -10,7 +10,7 @@ use Rattle.model.specs.Calls.{workedOut}
 use Rattle.model.specs.PlacesLaws.{perRound-same, workedOut-twice}
 use Rattle.model.specs.declared.Booking.{Booking}
 use Rattle.load.specs.declared.stream.Stream.{Stream}
-use Rattle.sheet.specs.Memory.{Agrees}
+use Rattle.windows.specs.Memory.{Agrees}
 use Rattle.sheet.specs.Sheet.{Laid}
 use Rattle.questions.specs.Tied.{AllTied, opened-tied, reserved-tied, held-tied}
 

@@ -25,7 +25,7 @@ use Rattle.load.specs.Stream.{noStream, endOf, heldIn}
 use Rattle.load.specs.Basic.{basicOf, endsBy, Bounded, Playable, Within, EachOf}
 use Rattle.load.specs.Disk.{diskKept, startsKept}
 use Rattle.load.specs.declared.stream.Stream.{Stream}
-use Rattle.sheet.specs.Memory.{feasible, memoryKept}
+use Rattle.windows.specs.Memory.{feasible, memoryKept}
 use Rattle.questions.specs.Tied.{AllTied, all-tied, opened-tied, reserved-tied, held-tied, pairs-tied, basic-tied, exists-tied}
 
 -- two tests that agree below n

@@ -1,13 +1,13 @@
 // The sheet of the standing bookings laid down, where its sums of bytes held may stand already.
 use segments::loads::lay_loads;
-use sheet::sheet::lay_helds;
+use sheet::lay_helds;
 ghost use mathlib.Core.Path.{_≡_};
 ghost use mathlib.Core.Bool.{true};
 ghost use Prim.Native.Nat.{_≤_};
 ghost use lib.ListN.{length, take};
 ghost use Rattle.table.specs.Columns.{tableWords};
 ghost use Rattle.table.specs.Streams.{streams};
-ghost use Rattle.sheet.specs.Memory.{Agrees};
+ghost use Rattle.windows.specs.Memory.{Agrees};
 ghost use Rattle.sheet.specs.Sheet.{Lays, Laid};
 ghost use Rattle.questions.specs.Events.{Gathered};
 

@@ -8,7 +8,7 @@ use limits::refusals::DAY_ROUNDS;
 use limits::refusals::NO_ROOM;
 use limits::refusals::UNSOUND;
 use model::Day;
-use sheet::packed::Packed;
+use windows::packed::Packed;
 ghost use mathlib.Core.Path.{_≡_};
 ghost use mathlib.Core.Bool.{false};
 ghost use Prim.Native.Nat.{_≤_};
@@ -16,7 +16,7 @@ ghost use Rattle.limits.specs.Bounds.{maxBookings};
 ghost use Rattle.films.specs.Questions.{verdict};
 ghost use Rattle.load.specs.Basic.{EachOf};
 ghost use Rattle.table.specs.Streams.{streams};
-ghost use Rattle.sheet.specs.Packed.{heldsOf, Settled};
+ghost use Rattle.windows.specs.Packed.{heldsOf, Settled};
 ghost use Rattle.questions.specs.Listed.{Workspace, Listed, Examines};
 
 // The number of the first that says no, 0 if none does; and whether a list, packed so, has what the standing bookings hold by round.

@@ -17,10 +17,10 @@ use Rattle.model.specs.declared.Answer.the-variants.{Refused}
 use Rattle.playing.specs.Lines.{noLine}
 use Rattle.playing.specs.Contract.{linesIn}
 use Rattle.table.specs.Words.{Wrote}
-use Rattle.replay.specs.Log.{answerWords, loggedWords}
+use Rattle.journal.specs.Log.{answerWords, loggedWords}
 use Rattle.replay.specs.Contract.{Result}
-use Rattle.replay.specs.declared.journal.Entry.{Entry}
-use Rattle.replay.specs.declared.journal.Entry.the-variants.{Book, Drop, Play, Unknown}
+use Rattle.journal.specs.declared.Entry.{Entry}
+use Rattle.journal.specs.declared.Entry.the-variants.{Book, Drop, Play, Unknown}
 use Rattle.replay.specs.declared.step.Stepped.{Stepped}
 use Rattle.replay.specs.declared.step.PlayStep.{PlayStep}
 

@@ -27,7 +27,7 @@ use Rattle.questions.specs.Numbers.{roundsHold, dayHolds, limitsHold, sheetHold
 use Rattle.replay.specs.PlainRun.{plainEntry}
 use Rattle.replay.specs.DeskRun.{carried}
 use Rattle.replay.specs.RunLaws.{entry-step}
-use Rattle.replay.specs.declared.journal.Entry.{Entry}
+use Rattle.journal.specs.declared.Entry.{Entry}
 
 -- d is the picture of a plain day that was reached from an accepted opening
 pub record Pictured (S : Setting) (d : State) : Type 0 where

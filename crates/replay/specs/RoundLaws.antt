@@ -33,16 +33,16 @@ use Rattle.playing.specs.Round.{OfDay}
 use Rattle.player.specs.Round.{Reports}
 use Rattle.player.specs.RoundLaws.{words-length}
 use Rattle.player.specs.declared.report.Told.{Told}
-use Rattle.replay.specs.Log.{answerWords}
-use Rattle.replay.specs.Writing.{wrote-under, lines-length}
+use Rattle.journal.specs.Log.{answerWords}
+use Rattle.journal.specs.Writing.{wrote-under, lines-length}
 use Rattle.replay.specs.StepLaws.{play-whole, tries-none, tries-step}
 use Rattle.replay.specs.DeskRun.{asStep}
 use Rattle.replay.specs.LoopLaws.{going-next}
 use Rattle.replay.specs.Pictured.{Pictured, pictured-between, pictured-there, between-plays}
-use Rattle.replay.specs.Journal.{entryAt}
+use Rattle.journal.specs.Journal.{entryAt}
 use Rattle.replay.specs.Rounds.{later, StandingOf, Prepared, Tried, TriedOf, SpanAsks, TabledFor, SpanGives, Spanning}
-use Rattle.replay.specs.declared.journal.Entry.{Entry}
-use Rattle.replay.specs.declared.journal.Entry.the-variants.{Play}
+use Rattle.journal.specs.declared.Entry.{Entry}
+use Rattle.journal.specs.declared.Entry.the-variants.{Play}
 use Rattle.replay.specs.declared.step.PlayStep.{PlayStep}
 
 -- nothing is done

@@ -16,11 +16,11 @@ use Rattle.table.specs.Table.{Tabled}
 use Rattle.player.specs.Active.{Active}
 use Rattle.player.specs.Ahead.{Ahead}
 use Rattle.playing.specs.Round.{OfDay}
-use Rattle.replay.specs.Journal.{entryWords}
+use Rattle.journal.specs.Journal.{entryWords}
 use Rattle.replay.specs.DeskRun.{TriesPlay}
 use Rattle.replay.specs.LoopLaws.{Going}
-use Rattle.replay.specs.declared.journal.Entry.{Entry}
-use Rattle.replay.specs.declared.journal.Entry.the-variants.{Book, Drop, Play, Unknown}
+use Rattle.journal.specs.declared.Entry.{Entry}
+use Rattle.journal.specs.declared.Entry.the-variants.{Book, Drop, Play, Unknown}
 use Rattle.replay.specs.declared.step.PlayStep.{PlayStep}
 use Rattle.replay.specs.declared.rounds.Span.{Span}
 

@@ -22,8 +22,8 @@ use Rattle.playing.specs.Lines.{noLine}
 use Rattle.table.specs.Table.{Tabled}
 use Rattle.table.specs.TableLaws.{tabled-none}
 use Rattle.replay.specs.DeskRun.{carried, Took}
-use Rattle.replay.specs.declared.journal.Entry.{Entry}
-use Rattle.replay.specs.declared.journal.Entry.the-variants.{Book, Drop, Play, Unknown}
+use Rattle.journal.specs.declared.Entry.{Entry}
+use Rattle.journal.specs.declared.Entry.the-variants.{Book, Drop, Play, Unknown}
 use Rattle.replay.specs.declared.step.Stepped.{Stepped}
 
 module _ (S : Setting) (d : State) where

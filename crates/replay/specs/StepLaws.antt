@@ -29,11 +29,11 @@ use Rattle.playing.specs.Lines.{noLine}
 use Rattle.playing.specs.Contract.{linesIn, linesFor, Plays}
 use Rattle.playing.specs.declared.Played as Play
 use Rattle.table.specs.Words.{linesWords, Wrote}
-use Rattle.replay.specs.Log.{answerWords, loggedWords}
-use Rattle.replay.specs.Writing.{wrote-then, lines-length}
+use Rattle.journal.specs.Log.{answerWords, loggedWords}
+use Rattle.journal.specs.Writing.{wrote-then, lines-length}
 use Rattle.replay.specs.DeskRun.{blankReport, refusalOf, outcomeWords, carried, Took, Kept, Steps, asStep, TriesPlay, Refuses}
-use Rattle.replay.specs.declared.journal.Entry.{Entry}
-use Rattle.replay.specs.declared.journal.Entry.the-variants as E
+use Rattle.journal.specs.declared.Entry.{Entry}
+use Rattle.journal.specs.declared.Entry.the-variants as E
 use Rattle.replay.specs.declared.step.Stepped.{Stepped}
 use Rattle.replay.specs.declared.step.PlayStep.{PlayStep}
 

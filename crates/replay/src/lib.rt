@@ -1,6 +1,4 @@
 // Replay of a day's journal.
-pub mod journal;
-pub mod log;
 pub mod rounds;
 pub mod step;
 
@@ -28,7 +26,7 @@ ghost use Rattle.model.specs.Fit.{Fits};
 ghost use Rattle.model.specs.declared.Booking.{Booking};
 ghost use Rattle.opening.specs.Contract.{asked};
 ghost use Rattle.questions.specs.Given.{settingAt};
-ghost use Rattle.replay.specs.Journal.{entries};
+ghost use Rattle.journal.specs.Journal.{entries};
 ghost use Rattle.replay.specs.Contract.{lentTo, result, Replays};
 ghost use Rattle.replay.specs.DeskRun.{deskRun, runResult};
 ghost use Rattle.replay.specs.Pictured.{Pictured};

@@ -1,10 +1,10 @@
 // PLAYs one after the other, from a table of the bookings that are open in one of the rounds ahead and from what they hold in them.
-use crate::journal::Entry;
-use crate::journal::entry_at;
-use crate::log::ANSWER_WORDS;
-use crate::log::LINE_WORDS;
-use crate::log::write_answer;
 use crate::step::PlayStep;
+use journal::Entry;
+use journal::entry_at;
+use journal::log::ANSWER_WORDS;
+use journal::log::LINE_WORDS;
+use journal::log::write_answer;
 use model::Answer;
 use model::Day;
 use player::active::select_active;
@@ -23,7 +23,7 @@ ghost use Rattle.table.specs.Table.{rowWords, Ended};
 ghost use Rattle.player.specs.Active.{Active};
 ghost use Rattle.player.specs.Round.{roundOpen, Tellable};
 ghost use Rattle.replay.specs.Rounds.{later, isPlay, StandingOf, Prepared, TriedOf, SpanAsks, SpanGives};
-ghost use Rattle.replay.specs.declared.journal.Entry.the-variants.{Play};
+ghost use Rattle.journal.specs.declared.Entry.the-variants.{Play};
 
 // The entries of a span that are done: the one after them, the place in the log after their words, and the day.
 pub struct Span {

@@ -1,12 +1,12 @@
 // One entry carried out on the day, and logged.
-use crate::journal::Entry;
-use crate::log::ANSWER_WORDS;
-use crate::log::LINE_WORDS;
-use crate::log::write_answer;
-use crate::log::write_lines;
 use booking::book_kept;
 use dropping::drop_kept;
 use films::types::Catalogue;
+use journal::Entry;
+use journal::log::ANSWER_WORDS;
+use journal::log::LINE_WORDS;
+use journal::log::write_answer;
+use journal::log::write_lines;
 use limits::bounds::MAX_BOOKINGS;
 use limits::refusals::COMMAND;
 use model::Answer;
@@ -30,7 +30,7 @@ ghost use Rattle.booking.specs.Own.{maxLength};
 ghost use Rattle.playing.specs.Contract.{linesIn};
 ghost use Rattle.replay.specs.DeskRun.{refusalOf, Refuses, asStep, Steps};
 ghost use Rattle.replay.specs.Pictured.{Pictured};
-ghost use Rattle.replay.specs.declared.journal.Entry.the-variants.{Book, Drop, Play};
+ghost use Rattle.journal.specs.declared.Entry.the-variants.{Book, Drop, Play};
 
 // What an entry leaves: whether it was done, the place in the log after it, the day and the records' places, which stand first as in
 // `booking::Outcome`.

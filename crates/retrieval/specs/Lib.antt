@@ -17,6 +17,5 @@ pub mod ReserveLaws
 pub mod SheetLaws
 pub mod Parts
 pub mod Shown
-pub mod Three
 pub mod Written
 pub mod Tests

@@ -1,10 +1,9 @@
 -- Many rounds of the disk's test together: the largest sum of reserves with the loss of at least as many films as any round has open; parts
 -- of the sheet's lists. Assumes nothing.
-use mathlib.Core.Path.{_≡_, sym, ap, ap₂, _∙_}
+use mathlib.Core.Path.{_≡_, sym, ap₂, _∙_}
 use mathlib.Core.Bool.{Bool, true}
 use mathlib.Core.List.{List}
-use Prim.Native.Nat.{ℕ, _+_, _-_, _*_, _^_, _≤_, _<_}
-use native.Mathlib.Decide.{decLe}
+use Prim.Native.Nat.{ℕ, _+_, _-_, _≤_, _<_}
 use native.Mathlib.Omega.{arith}
 use lib.ListN.{length, getD, take, drop, length-drop}
 use lib.Seq.{getD-take, getD-drop, length-take-le}
@@ -17,6 +16,7 @@ use Rattle.loss.specs.Rising.{loss-rising}
 use Rattle.lists.specs.Joined.{JoinsTo}
 use Rattle.search.specs.Fit.{diskFits, DiskRows}
 use Rattle.search.specs.Search.{PassFrom}
+use Rattle.search.specs.MemoryLaws.{pass-around}
 
 -- ---- one test for all rounds
 
@@ -86,11 +86,7 @@ module _ (opens reserves : List ℕ) (a e : ℕ) (order : a ≤ e) (rows : DiskR
 
 module _ (f : ℕ → Bool) (a e r t : ℕ) (low : a ≤ t) (lower : t < r) (high : r ≤ e) (pass : (s : ℕ) → r ≤ s → s < e → f s ≡ true) where
   both-pass : (q : ℕ) → PassFrom f t r q → (s : ℕ) → q ≤ s → s < e → f s ≡ true
-  both-pass q p s h k = go (decLe r s)
-    where
-      go : Dec (r ≤ s) → f s ≡ true
-      go (yes m) = pass s m k
-      go (no m) = p .pass s h (omega arith)
+  both-pass q p = pass-around f q q r e (p .pass) pass (λ s h k. absurd (omega arith))
 
   -- a round of it does not pass
   pub free-within : (q : ℕ) → PassFrom f t r q → t < q → PassFrom f a e q

@@ -3,7 +3,7 @@
 use mathlib.Core.Path.{_≡_, sym, ap, ap₂, _∙_}
 use mathlib.Core.Bool.{Bool, true}
 use mathlib.Core.List.{List}
-use Prim.Native.Nat.{ℕ, _+_, _-_, _^_, _≤_, _<_, min}
+use Prim.Native.Nat.{ℕ, _+_, _-_, _^_, _≤_, _<_, min, max}
 use native.Mathlib.Decide.{decLe}
 use native.Mathlib.Omega.{arith}
 use lib.ListN.{length, getD, take, drop, length-drop}
@@ -119,7 +119,7 @@ less-left : (n x y : ℕ) → x < y → x < n → n - y < n - x
 less-left n x y h k = omega arith
 
 -- with a block more on either side, fewer rounds are left
-pub block-less : (a e n from to : ℕ) → from ≡ a - 64 → to ≡ min (e + 64) n → a ≤ e → e ≤ n → e - a < n → n - (to - from) < n - (e - a)
+pub block-less : (a e n from to : ℕ) → from ≡ max 0 (a - 64) → to ≡ min (e + 64) n → a ≤ e → e ≤ n → e - a < n → n - (to - from) < n - (e - a)
 block-less a e n from to p q h k l =
     let wider : e - a < to - from = omega arith in
     less-left n (e - a) (to - from) wider l

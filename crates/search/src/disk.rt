@@ -1,5 +1,6 @@
 // Rounds that the disk can take.
 use crate::memory::TOGETHER;
+use lists::blocks::block_start;
 use lists::joined::all_within;
 use lists::joined::join;
 ghost use mathlib.Core.Path.{_≡_};
@@ -81,17 +82,6 @@ fn free_block(
     free_singly(losses, opens, reserves, disk, b, a, e)
 }
 
-// The first of the rounds of a block that ends before round e, and at least a.
-fn block_from(a: usize, e: usize) -> usize
-    requires { ⌜ a < e ⌝ }
-    ensures { λ r. ⌜ (a ≤ r) × (r < e) ⌝ }
-{
-    if e - a <= TOGETHER {
-        return a;
-    }
-    e - TOGETHER
-}
-
 // The same as `free_singly`, block by block.
 pub fn free_from(
     losses: &[u64],
@@ -107,7 +97,7 @@ pub fn free_from(
 {
     let mut r = e;
     while a < r {
-        let t = block_from(a, r);
+        let t = block_start(a, r, TOGETHER);
         let free = free_block(losses, opens, reserves, disk, b, t, r);
         if t < free {
             return free;

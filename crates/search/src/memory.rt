@@ -1,7 +1,9 @@
 // Rounds that memory can take.
+use lists::blocks::block_end;
+use lists::blocks::block_start;
 use retrieval::less;
 ghost use mathlib.Core.Path.{_≡_};
-ghost use Prim.Native.Nat.{_+_, _-_, _≤_, min};
+ghost use Prim.Native.Nat.{_+_, _≤_, min};
 ghost use lib.ListN.{length};
 ghost use Rattle.laws.specs.Tests.{below};
 ghost use Rattle.search.specs.Fit.{HeldRows, memoryFits};
@@ -96,21 +98,6 @@ fn block_over(
     part_over(helds, memory, profile, s, a, e)
 }
 
-// The round after those that are tested together with e.
-fn block_end(e: usize, n: usize) -> usize
-    requires { ⌜ e ≤ n ⌝ }
-    ensures { λ r. ⌜ r ≡ min (e + 64) n ⌝ }
-{
-    if n - e < TOGETHER { n } else { e + TOGETHER }
-}
-
-// The first of the rounds that are tested together with the one before a.
-fn block_start(a: usize) -> usize
-    ensures { λ r. ⌜ r ≡ a - 64 ⌝ }
-{
-    if a < TOGETHER { 0 } else { a - TOGETHER }
-}
-
 pub fn smaller(a: usize, b: usize) -> usize
     ensures { λ r. ⌜ r ≡ min a b ⌝ }
 {
@@ -137,12 +124,12 @@ pub fn some_over(
     let mut a = smaller(near, n);
     let mut e = a;
     while e - a < n {
-        let to = block_end(e, n);
+        let to = block_end(e, n, TOGETHER);
         let later = block_over(helds, memory, profile, s, e, to, taken);
         if later < to {
             return later;
         }
-        let from = block_start(a);
+        let from = block_start(0, a, TOGETHER);
         let earlier = block_over(helds, memory, profile, s, from, a, taken);
         if earlier < a {
             return earlier;

@@ -1,9 +1,10 @@
 // Lists by round.
 use crate::passing::Place;
 use crate::passing::next;
+use lists::blocks::block_end;
 ghost use mathlib.Core.Path.{_≡_};
 ghost use mathlib.Core.List.{List};
-ghost use Prim.Native.Nat.{_≤_, _<_};
+ghost use Prim.Native.Nat.{_≤_};
 ghost use lib.ListN.{length, replicate};
 ghost use Rattle.lists.specs.Rows.{Row};
 ghost use Rattle.lists.specs.Disk.{openRows, reserveRows};
@@ -38,17 +39,6 @@ fn fill_part(list: &mut [u64], from: usize, until: usize, v: u64)
     fill(&mut list[from..until], v);
 }
 
-// The end of the block of places that begins at `from`, and at most `until`.
-fn block_end(from: usize, until: usize) -> usize
-    requires { ⌜ from < until ⌝ }
-    ensures { λ r. ⌜ (from < r) × (r ≤ until) ⌝ }
-{
-    if until - from <= BLOCK {
-        return until;
-    }
-    from + BLOCK
-}
-
 // Sets the places from `from` to the one before `until` to v in one list and to w in the other. The lists take turns, a block each: a
 // processor fills two lists that it does not have in its cache faster so than one after the other.
 fn fill_both(list: &mut [u64], other: &mut [u64], from: usize, until: usize, v: u64, w: u64)
@@ -57,7 +47,7 @@ fn fill_both(list: &mut [u64], other: &mut [u64], from: usize, until: usize, v: 
 {
     let mut at = from;
     while at < until {
-        let next = block_end(at, until);
+        let next = block_end(at, until, BLOCK);
         fill_part(list, at, next, v);
         fill_part(other, at, next, w);
         at = next;

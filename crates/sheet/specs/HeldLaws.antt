@@ -16,7 +16,7 @@ use Rattle.model.specs.Calls.{perRound, workedOut}
 use Rattle.load.specs.Stream.{noStream, lengthOf, profileOf, holdsIn, heldIn}
 use Rattle.load.specs.Basic.{Playable, Within, EachOf}
 use Rattle.load.specs.declared.stream.Stream.{Stream}
-use Rattle.sheet.specs.Parts.{length-addAt, largest-addAt}
+use Rattle.windows.specs.Parts.{length-addAt, largest-addAt}
 use Rattle.sheet.specs.SheetLaws.{perRound-next, perRound-zeros, held-share, tail-adds, tail-added}
 
 -- an empty list for the first n of xs

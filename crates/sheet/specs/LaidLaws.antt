@@ -14,13 +14,15 @@ use Rattle.model.specs.Calls.{perRound, workedOut}
 use Rattle.model.specs.PlacesLaws.{length-perRound, perRound-same}
 use Rattle.model.specs.CodeLaws.{perRound-at}
 use Rattle.load.specs.Stream.{noStream, lengthOf, openIn, profileOf, holdsIn, total, openCount, reservedIn, heldIn}
-use Rattle.load.specs.StreamLaws.{cond-most}
+use Rattle.load.specs.StreamLaws.{cond-most, total-append}
 use Rattle.load.specs.Basic.{Playable, Within, EachOf}
 use Rattle.load.specs.declared.stream.Stream.{Stream}
-use Rattle.sheet.specs.Parts.{addAt, share}
+use Rattle.windows.specs.Packed.{heldsOf, Settled}
+use Rattle.windows.specs.PackedLaws.{settled-drop}
+use Rattle.windows.specs.declared.packed.Packed.{Packed}
+use Rattle.windows.specs.Parts.{addAt, share}
 use Rattle.sheet.specs.Sheet.{Addable, AddedTo, Places, Laid, Raises, Raised}
-use Rattle.sheet.specs.WindowLaws.{length-profileOf}
-use Rattle.sheet.specs.FillLaws.{total-append}
+use Rattle.windows.specs.WindowLaws.{length-profileOf}
 use Rattle.sheet.specs.SheetLaws.{perRound-add, flat-share, held-share}
 
 -- ---- a list's first places by round
@@ -177,3 +179,15 @@ module _ (f : List ℕ) (xs : List Stream) (x : Stream) (T : ℕ) (opens reserve
             worked-more T (λ t. heldIn f t xs) (share (x .start) (profileOf f x)) (λ t. heldIn f t (xs ++ (x ∷ []))) helds h h′ (g .held) (a .held)
             (λ t. ap (λ (v : ℕ). heldIn f t xs + v) (held-share x f t) ∙ one (holdsIn f t));
       }
+
+-- ---- on a list that was packed
+
+-- a sheet laid down on the list with the bytes held alone is one laid down on the list as it was lent
+pub unpacked-laid : (f : List ℕ) (xs : List Stream) (p : Packed) (T : ℕ) (o₀ r₀ before after held o r h : List ℕ) → Settled p T before after
+    → held ≡ heldsOf p after → Laid f xs T o₀ r₀ held o r h → Laid f xs T o₀ r₀ before o r h
+unpacked-laid f xs p T o₀ r₀ before after held o r h g e k =
+    record {
+      films = k .films;
+      reserved = k .reserved;
+      held = k .held ∙ ap (λ (q : List ℕ). perRound (λ t. heldIn f t xs) 0 T ++ q) (ap (drop T) e ∙ settled-drop p T before after g);
+    }

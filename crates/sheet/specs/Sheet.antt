@@ -13,7 +13,7 @@ use Rattle.model.specs.Calls.{workedOut}
 use Rattle.load.specs.Stream.{lengthOf, endOf, openIn, openCount, reservedIn, heldIn}
 use Rattle.load.specs.Basic.{Bounded, Playable, Within, EachOf}
 use Rattle.load.specs.declared.stream.Stream.{Stream}
-use Rattle.sheet.specs.Parts.{addAt, share}
+use Rattle.windows.specs.Parts.{addAt, share}
 
 -- v can be added to every place
 abbrev pub Below : ℕ → List ℕ → Type 0

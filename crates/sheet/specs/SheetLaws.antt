@@ -20,12 +20,11 @@ use Rattle.model.specs.Calls.{perRound}
 use Rattle.model.specs.PlacesLaws.{length-perRound, perRound-same}
 use Rattle.model.specs.CodeLaws.{perRound-at}
 use Rattle.load.specs.Stream.{sendsOf, lengthOf, endOf, openIn, profileOf, holdsIn, total, heldIn}
-use Rattle.load.specs.StreamLaws.{open-early, open-late, open-within}
+use Rattle.load.specs.StreamLaws.{open-early, open-late, open-within, total-take}
 use Rattle.load.specs.Basic.{Playable}
 use Rattle.load.specs.declared.stream.Stream.{Stream}
-use Rattle.sheet.specs.Parts.{addAt, share, share-before, share-from, length-addAt, addAt-at, addAt-back}
-use Rattle.sheet.specs.WindowLaws.{length-profileOf, holds-early, holds-late, holds-within}
-use Rattle.sheet.specs.FillLaws.{total-take}
+use Rattle.windows.specs.Parts.{addAt, share, share-before, share-from, length-addAt, addAt-at, addAt-back}
+use Rattle.windows.specs.WindowLaws.{length-profileOf, holds-early, holds-late, holds-within}
 use Rattle.sheet.specs.Sheet.{Below}
 
 -- ---- v added to the first places, one by one

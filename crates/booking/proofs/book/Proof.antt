@@ -14,7 +14,7 @@ use Rattle.model.specs.FirstFit.{book-first}
 use Rattle.load.specs.Streams.{streamOf}
 use Rattle.table.specs.Table.{Tabled}
 use Rattle.questions.specs.Given.{settingAt}
-use Rattle.sheet.specs.PackedLaws.{settled-same}
+use Rattle.windows.specs.PackedLaws.{settled-same}
 use Rattle.questions.specs.Standing.{standing-first}
 use Rattle.booking.specs.Contract.{Passes, bookAsks}
 use Rattle.booking.specs.Placed.{asks-same, leaves-left}

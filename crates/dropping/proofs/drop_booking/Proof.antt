@@ -5,7 +5,7 @@ use lib.ListN.{length}
 use native.Mathlib.Omega.{arith}
 use borrow.Author.Needs.{needs}
 use Rattle.films.specs.Ordered.{catalogue-ordered}
-use Rattle.sheet.specs.PackedLaws.{settled-same}
+use Rattle.windows.specs.PackedLaws.{settled-same}
 use Rattle.questions.specs.Standing.{standing-held}
 use Rattle.dropping.specs.Standing.{Passes}
 use Rattle.dropping.specs.Laws.{standing-refused}

@@ -73,7 +73,7 @@ returns c =
     let k = s .args .cabs .now in
     let m = s .args .shows .now in
     let e = s .args .ends .now in
-    let i : l .i ≤ next .result = omega (arith, next .ensures .0) in
+    let i : l .i ≤ next .result = omega (arith, next .ensures) in
     let cut = clear-cut k m e (l .i) (next .result) i (s .pre .shown-each) (s .pre .end-each) in
     let no = sym (c .before .pairs-clear .ensures) ∙ not-true _ (c .if1 .taken) in
     sym (l .inv .1 ∙ cut ∙ rw no)
@@ -168,7 +168,7 @@ returns-2 c =
     let k = s .args .cabs .now in
     let m = s .args .shows .now in
     let e = s .args .ends .now in
-    let i : l .i ≤ next .result = omega (arith, next .ensures .0) in
+    let i : l .i ≤ next .result = omega (arith, next .ensures) in
     let cut = clear-cut k m e (l .i) (next .result) i (s .pre .shown-each) (s .pre .end-each) in
     let within = sym (c .before .before .before .before .before .before .before .before .before .pairs-clear .ensures) ∙ not-false _ (c .before .before .before .before .before .before .before .before .if1 .left) in
     let n = next .result in
@@ -179,7 +179,7 @@ returns-2 c =
 loop-less : tie.Need-loop-less Inv-loop μ-loop
 loop-less c =
     let next = c .before .before .before .before .before .before .before .before .before .before .before .before .before .block-end in
-    omega (arith, next .ensures .0, next .ensures .1)
+    omega (arith, next .ensures)
 
 loop-again : tie.Need-loop-again Inv-loop μ-loop
 loop-again c =
@@ -189,13 +189,13 @@ loop-again c =
     let k = s .args .cabs .now in
     let m = s .args .shows .now in
     let e = s .args .ends .now in
-    let i : l .i ≤ next .result = omega (arith, next .ensures .0) in
+    let i : l .i ≤ next .result = omega (arith, next .ensures) in
     let cut = clear-cut k m e (l .i) (next .result) i (s .pre .shown-each) (s .pre .end-each) in
     let within = sym (c .before .before .before .before .before .before .before .before .before .pairs-clear .ensures) ∙ not-false _ (c .before .before .before .before .before .before .before .before .if1 .left) in
     let n = next .result in
     let rest = rw (tail-part n k, tail-part n m, tail-part n e) at (c .before .apart .ensures) in
     let passed = sym rest ∙ not-false _ (c .if2 .left) in
-    (next .ensures .1, l .inv .1 ∙ cut ∙ rw (within, passed))
+    (omega (arith, next .ensures), l .inv .1 ∙ cut ∙ rw (within, passed))
 
 returns-3 : tie.Need-returns-3 Inv-loop μ-loop
 returns-3 c =

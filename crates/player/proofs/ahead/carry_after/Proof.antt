@@ -1,7 +1,7 @@
 -- `player::ahead::carry_after` meets its contract: nothing is carried from a round after the last. Assumes nothing.
 use mathlib.Core.Path.{sym}
 use native.Mathlib.Omega.{arith}
-use Rattle.sheet.specs.WindowLaws.{carry-late}
+use Rattle.windows.specs.WindowLaws.{carry-late}
 use borrow.Author.Needs.{needs}
 use Rattle.player.proofs.ahead.carry_after.Statement.{statement}
 use Rattle.player.proofs.ahead.carry_after.Tie as tie

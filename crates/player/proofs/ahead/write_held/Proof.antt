@@ -4,8 +4,8 @@ use borrow.Author.Needs.{needs}
 use Rattle.player.proofs.ahead.write_held.Statement.{statement}
 use Rattle.player.proofs.ahead.write_held.Tie as tie
 use Rattle.player.proofs.ahead.carry_after.Reads as carry-after-reads
-use Rattle.retrieval.proofs.clear.clear.Reads as clear-reads
-use Rattle.sheet.proofs.window.window_add.Reads as window-add-reads
+use Rattle.profiles.proofs.clear.clear.Reads as clear-reads
+use Rattle.windows.proofs.window.window_add.Reads as window-add-reads
 
 sub-clear : tie.Need-sub-clear
 sub-clear c = search needs

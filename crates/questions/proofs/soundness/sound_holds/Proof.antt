@@ -7,7 +7,7 @@ use borrow.Author.Tests.{le-leb, lt-leb}
 use lib.ListN.{take}
 use lib.Seq.{length-take-le}
 use Rattle.limits.specs.Bounds.{maxBookings}
-use Rattle.sheet.specs.PackedLaws.{settled-left}
+use Rattle.windows.specs.PackedLaws.{settled-left}
 use Rattle.questions.specs.Numbers.{soundHolds}
 use Rattle.questions.proofs.soundness.sound_holds.Statement.{statement}
 use Rattle.questions.proofs.soundness.sound_holds.Tie as tie

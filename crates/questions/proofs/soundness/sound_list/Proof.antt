@@ -7,8 +7,8 @@ use native.Mathlib.Omega.{arith}
 use borrow.Author.Tests.{not-true, not-false}
 use lib.ListN.{take}
 use Rattle.films.specs.Catalogue.{catalogueOf}
-use Rattle.sheet.specs.Packed.{heldsOf}
-use Rattle.sheet.specs.PackedLaws.{settled-left}
+use Rattle.windows.specs.Packed.{heldsOf}
+use Rattle.windows.specs.PackedLaws.{settled-left}
 use Rattle.table.specs.Streams.{streams, streams-length}
 use Rattle.questions.specs.Given.{settingAt}
 use Rattle.questions.specs.Listed.{basic-each, listed-playable, table-tied, table-sound}

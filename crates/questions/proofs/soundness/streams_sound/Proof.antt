@@ -6,7 +6,7 @@ use mathlib.Core.List.{map}
 use borrow.Author.Tests.{not-true, not-false}
 use lib.ListN.{take}
 use lib.Seq.{length-take-le}
-use Rattle.sheet.specs.PackedLaws.{settled-left}
+use Rattle.windows.specs.PackedLaws.{settled-left}
 use Rattle.segments.specs.Timeline.{events-timeline}
 use Rattle.table.specs.RowLaws.{diskRow}
 use Rattle.table.specs.Streams.{streams}

@@ -7,8 +7,8 @@ use mathlib.Core.Bool.{true≢false}
 use native.Mathlib.Omega.{arith}
 use borrow.Author.Tests.{not-true, not-false, eq-eqb, ne-eqb}
 use Rattle.films.specs.Questions.{verdict}
-use Rattle.sheet.specs.Packed.{Settled}
-use Rattle.sheet.specs.PackedLaws.{settled-none, settled-same}
+use Rattle.windows.specs.Packed.{Settled}
+use Rattle.windows.specs.PackedLaws.{settled-none, settled-same}
 use Rattle.questions.specs.Numbers.{standingAsks, day-rounds-small}
 use Rattle.questions.proofs.standing.examine.Statement.{statement}
 use Rattle.questions.proofs.standing.examine.Tie as tie

@@ -6,7 +6,7 @@ use borrow.Author.Tests.{not-false}
 use Rattle.player.specs.AheadLaws.{ahead-until}
 use Rattle.playing.specs.RoundLaws.{day-rows}
 use Rattle.replay.specs.RoundLaws.{tried-of-none}
-use Rattle.replay.specs.declared.journal.Entry.the-variants.{Play}
+use Rattle.journal.specs.declared.Entry.the-variants.{Play}
 use borrow.Author.Needs.{needs}
 use Rattle.replay.proofs.rounds.play_ahead.Statement.{statement}
 use Rattle.replay.proofs.rounds.play_ahead.Tie as tie

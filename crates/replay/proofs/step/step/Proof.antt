@@ -14,7 +14,7 @@ use Rattle.model.specs.Code.{stateOf}
 use Rattle.questions.specs.Given.{settingAt}
 use Rattle.replay.specs.Pictured.{pictured-between, pictured-sheet, between-asks, between-plays}
 use Rattle.replay.specs.StepLaws.{no-room, file-steps, refused-steps}
-use Rattle.replay.specs.declared.journal.Entry.the-variants.{Unknown}
+use Rattle.journal.specs.declared.Entry.the-variants.{Unknown}
 use Rattle.replay.proofs.step.step.Statement.{statement}
 use Rattle.replay.proofs.step.step.Tie as tie
 

@@ -20,36 +20,36 @@ abbrev μ-loop : tie.MeasureT-loop
 loop-holds : tie.Need-loop-holds Inv-loop μ-loop
 loop-holds c = (search needs, search needs, λ t h k. absurd (omega arith))
 
-block-from-requires : tie.Need-block-from-requires Inv-loop μ-loop
-block-from-requires c κs = search needs
+block-start-requires : tie.Need-block-start-requires Inv-loop μ-loop
+block-start-requires c κs = search needs
 
 free-block-requires : tie.Need-free-block-requires Inv-loop μ-loop
 free-block-requires c κs =
     let start = c .before .before .before .before .before .before in
     let l = c .before .before .loop in
     let a = start .args in
-    (start .pre .0, fewer-disk (l .r) (l .inv .1) (start .pre .1), start .pre .2, omega (arith, c .block-from .ensures))
+    (start .pre .0, fewer-disk (l .r) (l .inv .1) (start .pre .1), start .pre .2, omega (arith, c .block-start .ensures))
 
 returns : tie.Need-returns Inv-loop μ-loop
 returns c =
     let start = c .before .before .before .before .before .before .before .before in
     let a = start .args in
     let l = c .before .before .before .before .loop in
-    let t = c .before .before .block-from in
+    let t = c .before .before .block-start in
     let f = c .before .free-block in
-    free-within (diskFits (a .opens .now) (a .reserves .now) (a .disk) (a .b)) (a .a) (a .e) (l .r) (t .result) (t .ensures .0) (t .ensures .1) (l .inv .1) (l .inv .2) (f .result) (f .ensures) (c .if1 .taken)
+    free-within (diskFits (a .opens .now) (a .reserves .now) (a .disk) (a .b)) (a .a) (a .e) (l .r) (t .result) (omega (arith, t .ensures)) (omega (arith, t .ensures)) (l .inv .1) (l .inv .2) (f .result) (f .ensures) (c .if1 .taken)
 
 loop-less : tie.Need-loop-less Inv-loop μ-loop
-loop-less c = omega (arith, c .before .before .block-from .ensures)
+loop-less c = omega (arith, c .before .before .block-start .ensures)
 
 loop-again : tie.Need-loop-again Inv-loop μ-loop
 loop-again c =
     let start = c .before .before .before .before .before .before .before .before in
     let a = start .args in
     let l = c .before .before .before .before .loop in
-    let t = c .before .before .block-from in
+    let t = c .before .before .block-start in
     let f = c .before .free-block in
-    (t .ensures .0, omega (arith, t .ensures, l .inv .1), block-passes (diskFits (a .opens .now) (a .reserves .now) (a .disk) (a .b)) (a .a) (a .e) (l .r) (t .result) (t .ensures .0) (t .ensures .1) (l .inv .1) (l .inv .2) (f .result) (f .ensures) (omega (arith, c .if1 .left)))
+    (omega (arith, t .ensures), omega (arith, t .ensures, l .inv .1), block-passes (diskFits (a .opens .now) (a .reserves .now) (a .disk) (a .b)) (a .a) (a .e) (l .r) (t .result) (omega (arith, t .ensures)) (omega (arith, t .ensures)) (l .inv .1) (l .inv .2) (f .result) (f .ensures) (omega (arith, c .if1 .left)))
 
 returns-2 : tie.Need-returns-2 Inv-loop μ-loop
 returns-2 c =
@@ -63,7 +63,7 @@ free-from-spec =
     Inv-loop
     μ-loop
     loop-holds
-    block-from-requires
+    block-start-requires
     free-block-requires
     returns
     loop-less

@@ -1,5 +1,5 @@
 -- `search::disk::takes_all` meets its contract: no round has more films open than the join, and none a larger loss. Assumes nothing.
-use Prim.Native.Nat.{ℕ, _+_, _-_, _≤_, _<_}
+use Prim.Native.Nat.{ℕ, _+_, _-_, _<_}
 use mathlib.Core.Path.{_≡_, sym, ap, _∙_}
 use mathlib.Core.Bool.{true≢false}
 use mathlib.Core.List.{List}
@@ -8,7 +8,7 @@ use borrow.Author.Needs.{needs}
 use lib.ListN.{length, getD}
 use Rattle.limits.specs.Bounds.{maxBookings}
 use Rattle.loss.specs.Loss.{lossAt, table-length}
-use Rattle.loss.specs.Rising.{maxLoss, loss-bound}
+use Rattle.loss.specs.Rising.{loss-bound}
 use Rattle.search.specs.DiskLaws.{all-fit}
 use Rattle.search.proofs.disk.takes_all.Statement.{statement}
 use Rattle.search.proofs.disk.takes_all.Tie as tie

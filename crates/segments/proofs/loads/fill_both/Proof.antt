@@ -48,7 +48,7 @@ loop-again c =
     let a = start .args in
     let l = c .before .before .before .before .before .before .before .before .before .before .loop in
     let next = c .before .before .before .before .before .before .before .before .block-end in
-    more-filled (a .list .now) (a .other .now) (a .from) (a .until) (a .v) (a .w) (start .pre .0) (start .pre .1) (start .pre .2) (l .list) (l .other) (l .at) (l .inv) (next .result) (c .before .before .before .before .before .before .fill-part .last .0) (c .before .before .fill-part2 .last .0) (omega (arith, next .ensures)) (next .ensures .1) (c .before .before .before .before .before .before .fill-part .ensures)
+    more-filled (a .list .now) (a .other .now) (a .from) (a .until) (a .v) (a .w) (start .pre .0) (start .pre .1) (start .pre .2) (l .list) (l .other) (l .at) (l .inv) (next .result) (c .before .before .before .before .before .before .fill-part .last .0) (c .before .before .fill-part2 .last .0) (omega (arith, next .ensures)) (omega (arith, next .ensures)) (c .before .before .before .before .before .before .fill-part .ensures)
     (c .before .before .fill-part2 .ensures)
 
 same-length : tie.Need-same-length Inv-loop μ-loop
