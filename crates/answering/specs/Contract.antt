@@ -10,7 +10,7 @@ use Rattle.model.specs.declared.Request.{Request}
 use Rattle.model.specs.declared.Answer.{Answer}
 use Rattle.booking.specs.Contract.{dayBooked, rowsBooked}
 use Rattle.dropping.specs.Contract.{counting}
-use Rattle.dropping.specs.Removal.{left}
+use Rattle.removal.specs.Removal.{left}
 use Rattle.commands.specs.declared.Command.{Command}
 use Rattle.commands.specs.declared.Command.the-variants.{Book, Drop, Bad}
 use Rattle.console.specs.Session.{SessionState}

@@ -36,7 +36,8 @@ use Rattle.windows.specs.PackedLaws.{settled-length}
 use Rattle.windows.specs.declared.packed.Packed.{Packed}
 use Rattle.sheet.specs.Sheet.{Laid, Lays, Places, Raises, Raised}
 use Rattle.sheet.specs.LaidLaws.{length-worked, laid-raises, laid-raised}
-use Rattle.search.specs.Fit.{queryOf, startAt, fitsAt, answerOf, Window}
+use Rattle.fitting.specs.Fit.{queryOf, startAt, fitsAt, Window}
+use Rattle.search.specs.Answers.{answerOf}
 use Rattle.search.specs.declared.Found.{Found}
 use Rattle.search.specs.declared.Found.the-variants.{At, Nowhere}
 use Rattle.questions.specs.Given.{settingAt}

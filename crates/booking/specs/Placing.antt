@@ -36,8 +36,9 @@ use Rattle.sheet.specs.Sheet.{Laid, Raises, Raised}
 use Rattle.windows.specs.PackedLaws.{unpacked-length}
 use Rattle.windows.specs.declared.packed.Packed.{Packed}
 use Rattle.sheet.specs.LaidLaws.{length-worked, unpacked-laid}
-use Rattle.search.specs.Fit.{Query, queryOf, startAt, fitsAt, answerOf, HeldRows, Window}
-use Rattle.search.specs.ProfileLaws.{profile-rows}
+use Rattle.fitting.specs.Fit.{Query, queryOf, startAt, fitsAt, HeldRows, Window}
+use Rattle.search.specs.Answers.{answerOf}
+use Rattle.fitting.specs.ProfileLaws.{profile-rows}
 use Rattle.search.specs.declared.Found.{Found}
 use Rattle.search.specs.declared.Found.the-variants.{At, Nowhere}
 use Rattle.questions.specs.Given.{settingAt}

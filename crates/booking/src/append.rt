@@ -8,7 +8,7 @@ ghost use Prim.Native.Nat.{_≤_, _<_, _^_};
 ghost use lib.ListN.{set};
 ghost use Rattle.limits.specs.Bounds.{maxBookings, maxDay, maxPrefetch, maxReserve};
 ghost use Rattle.model.specs.Day.{recordOf};
-ghost use Rattle.search.specs.Fit.{startAt};
+ghost use Rattle.fitting.specs.Fit.{startAt};
 
 // The record of a request at a start.
 pub fn record_of(q: Request, s: u64) -> Booking

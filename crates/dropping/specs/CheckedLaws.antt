@@ -42,10 +42,10 @@ use Rattle.questions.specs.Tied.{AllTied}
 use Rattle.questions.specs.ListSound.{StreamsOf, tabled-streams, all-tied-taken, sound-playable}
 use Rattle.questions.specs.SheetOf.{SheetOf, SheetKept, kept-agrees, laid-sheet, sheet-kept}
 use Rattle.dropping.specs.Contract.{Drops, DropsAt}
-use Rattle.dropping.specs.Removal.{Position, left}
-use Rattle.dropping.specs.Removal as removal
+use Rattle.removal.specs.Removal.{Position, left}
+use Rattle.removal.specs.Removal as removal
 use Rattle.dropping.specs.Standing.{Stands, Passes}
-use Rattle.dropping.specs.Taking.{Takes, Taken}
+use Rattle.removal.specs.Taking.{Takes, Taken}
 use Rattle.dropping.specs.KeptLaws.{kept-takes, taken-sheet}
 use Rattle.dropping.specs.Laws.{number-none, name-refused, accepted-drops}
 use Rattle.dropping.specs.declared.DropOutcome.{DropOutcome}

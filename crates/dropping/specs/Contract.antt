@@ -9,7 +9,7 @@ use Rattle.model.specs.Calls.{dropCall}
 use Rattle.model.specs.Code.{dayOf}
 use Rattle.model.specs.declared.Booking.{Booking}
 use Rattle.model.specs.declared.Day.{Day}
-use Rattle.dropping.specs.Removal.{left}
+use Rattle.removal.specs.Removal.{left}
 use Rattle.dropping.specs.declared.DropOutcome.{DropOutcome}
 use Rattle.dropping.specs.declared.DroppedAt.{DroppedAt}
 

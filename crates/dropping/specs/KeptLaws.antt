@@ -34,9 +34,9 @@ use Rattle.questions.specs.Tied.{Tied, opened-tied, reserved-tied, held-tied}
 use Rattle.questions.specs.Ties.{stream-tied}
 use Rattle.questions.specs.ListSound.{StreamsOf, sound-playable}
 use Rattle.questions.specs.SheetOf.{SheetOf, SheetKept}
-use Rattle.dropping.specs.Removal.{others, closed}
-use Rattle.dropping.specs.RemovalLaws.{take-closed}
-use Rattle.dropping.specs.Taking.{AtLeast, lowered, Takes, Taken}
+use Rattle.removal.specs.Removal.{others, closed}
+use Rattle.removal.specs.RemovalLaws.{take-closed}
+use Rattle.removal.specs.Taking.{AtLeast, lowered, Takes, Taken}
 
 -- ---- a share taken from a list that was worked out
 

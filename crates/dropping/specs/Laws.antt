@@ -19,8 +19,8 @@ use Rattle.questions.specs.Numbers.{roundsHold, dayHolds, limitsHold, sheetHold
 use Rattle.questions.specs.Standing.{Standing, standing-held, standing-numbered}
 use Rattle.questions.specs.SheetOf.{SheetOf}
 use Rattle.dropping.specs.Contract.{Drops}
-use Rattle.dropping.specs.Removal.{closed, Position}
-use Rattle.dropping.specs.RemovalLaws.{take-closed}
+use Rattle.removal.specs.Removal.{closed, Position}
+use Rattle.removal.specs.RemovalLaws.{take-closed}
 use Rattle.dropping.specs.declared.DropOutcome.{DropOutcome}
 
 module _ (f : List ℕ) (day : Day) (rows : List Booking) (places : ℕ) (opens reserves helds : List ℕ) (n : ℕ)

@@ -1,10 +1,6 @@
 -- Dropping a booking: its contract, and the laws that its proofs cite.
 pub mod Contract
-pub mod Removal
-pub mod RemovalLaws
 pub mod Standing
 pub mod Laws
-pub mod Taking
-pub mod TakingLaws
 pub mod KeptLaws
 pub mod CheckedLaws

@@ -1,11 +1,4 @@
 // Dropping a booking.
-pub mod removal;
-mod taking;
-
-use crate::removal::find_row;
-use crate::removal::position;
-use crate::removal::without;
-use crate::taking::take_stream;
 use films::catalogue::catalogue;
 use films::types::Catalogue;
 use limits::bounds::MAX_BOOKINGS;
@@ -16,6 +9,10 @@ use model::Booking;
 use model::Day;
 use questions::laying::lay_checked;
 use questions::standing::examine;
+use removal::records::find_row;
+use removal::records::position;
+use removal::records::without;
+use removal::stream::take_stream;
 use table::streams::TABLE_WORDS;
 use table::streams::stream_at;
 use table::tabulate::tabulate;

@@ -4,8 +4,8 @@ use mathlib.Core.Bool.{Bool, true, false, true≢false}
 use Prim.Native.Nat.{ℕ, _+_, _-_, _≤_, _<_, max}
 use native.Mathlib.Decide.{decLe}
 use native.Mathlib.Omega.{arith}
-use Rattle.search.specs.Search.{Tests, fits, PassFrom, SomeFails, RefusedTo, FailsTo, Clear, Skips, NoneFits}
-use Rattle.search.specs.FitLaws.{fits-cabs, fits-memory, fits-all, disk-rules-out, memory-rules-out}
+use Rattle.fitting.specs.Search.{Tests, fits, PassFrom, SomeFails, RefusedTo, FailsTo, Clear, Skips, NoneFits}
+use Rattle.fitting.specs.FitLaws.{fits-cabs, fits-memory, fits-all, disk-rules-out, memory-rules-out}
 
 -- one start more that fails a test in one of n rounds
 pub refused-next : (f : ℕ → ℕ → Bool) (n s r j : ℕ) → RefusedTo f n s r → f r j ≡ false → j < n → RefusedTo f n s (r + 1)

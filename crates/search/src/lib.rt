@@ -1,8 +1,4 @@
 // The first start of a booking's window that fits.
-mod blocks;
-mod cabs;
-mod disk;
-mod memory;
 mod window;
 
 use limits::bounds::MAX_BOOKINGS;
@@ -15,7 +11,8 @@ ghost use Rattle.load.specs.Stream.{lengthOf};
 ghost use Rattle.model.specs.Fit.{firstOf};
 ghost use Rattle.table.specs.Columns.{tableWords};
 ghost use Rattle.table.specs.Streams.{streams};
-ghost use Rattle.search.specs.Fit.{queryOf, fitsAt, answerOf, HeldRows, Window};
+ghost use Rattle.fitting.specs.Fit.{queryOf, fitsAt, HeldRows, Window};
+ghost use Rattle.search.specs.Answers.{answerOf};
 
 // A start, or none of the window's.
 pub enum Found {
@@ -47,7 +44,7 @@ pub fn first_start(
 {
     let mut shows = [0u64; MAX_BOOKINGS];
     let mut ends = [0u64; MAX_BOOKINGS];
-    let sharing = cabs::fill(table, count, y, &mut shows, &mut ends);
+    let sharing = fitting::cabs::fill(table, count, y, &mut shows, &mut ends);
     let losses = loss::table();
     window::first_fit(
         y,

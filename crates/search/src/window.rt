@@ -1,9 +1,9 @@
 // The starts of a window, tried upward. A start that does not fit rules out others, so most are never looked at.
 use crate::Found;
-use crate::blocks;
-use crate::cabs;
-use crate::disk;
-use crate::memory;
+use fitting::blocks;
+use fitting::cabs;
+use fitting::disk;
+use fitting::memory;
 use lists::joined::all_within;
 use load::stream::Stream;
 ghost use mathlib.Core.Path.{_≡_};
@@ -12,9 +12,11 @@ ghost use lib.ListN.{length};
 ghost use Rattle.limits.specs.Bounds.{maxDay};
 ghost use Rattle.load.specs.Stream.{lengthOf};
 ghost use Rattle.model.specs.Fit.{firstOf};
-ghost use Rattle.search.specs.Fit.{answerOf, memoryFits, HeldRows};
-ghost use Rattle.search.specs.Search.{fits, testsOf, RefusedTo, Walks, Clear, Tells};
-ghost use Rattle.search.specs.Blocks.{Taken};
+ghost use Rattle.fitting.specs.Fit.{memoryFits, HeldRows};
+ghost use Rattle.search.specs.Answers.{answerOf};
+ghost use Rattle.fitting.specs.Search.{fits, testsOf, RefusedTo, Walks, Clear};
+ghost use Rattle.search.specs.Answers.{Tells};
+ghost use Rattle.fitting.specs.Blocks.{Taken};
 
 // A start to try, the round up to which its rounds are known to be free for the disk, and the last two rounds of the stream's own
 // in which memory refused starts before.

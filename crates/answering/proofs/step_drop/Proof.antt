@@ -3,7 +3,7 @@ use lib.ListN.{length}
 use Rattle.limits.specs.Bounds.{hallPlaces}
 use Rattle.questions.specs.Standing.{standing-held}
 use Rattle.dropping.specs.Contract.{counting}
-use Rattle.dropping.specs.Removal.{left}
+use Rattle.removal.specs.Removal.{left}
 use Rattle.answering.specs.Contract.{sessionAt}
 use Rattle.answering.specs.Kept.{ready-asks}
 use Rattle.answering.specs.Sheet.{kept-sheet}

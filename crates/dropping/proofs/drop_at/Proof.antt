@@ -4,7 +4,7 @@ use mathlib.Core.Path.{_≡_, refl, sym}
 use Prim.Native.Nat.{_<_}
 use native.Mathlib.Omega.{arith}
 use borrow.Author.Tests.{lt-ltb, le-ltb}
-use Rattle.dropping.specs.Removal.{closed, left}
+use Rattle.removal.specs.Removal.{closed, left}
 use Rattle.dropping.specs.Laws.{stands, name-refused, accepted-drops}
 use Rattle.dropping.specs.KeptLaws.{kept-takes, taken-sheet}
 use borrow.Author.Needs.{needs}

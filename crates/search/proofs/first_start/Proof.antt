@@ -10,9 +10,9 @@ use lib.ListN.{take}
 use lib.Seq.{length-take-le}
 use Rattle.model.specs.Fit.{firstOf}
 use Rattle.table.specs.Streams.{streams}
-use Rattle.search.specs.Fit.{answerOf}
-use Rattle.search.specs.CabLaws.{columns-cut}
-use Rattle.search.specs.ProfileLaws.{columns-fit}
+use Rattle.search.specs.Answers.{answerOf}
+use Rattle.fitting.specs.CabLaws.{columns-cut}
+use Rattle.fitting.specs.ProfileLaws.{columns-fit}
 use Rattle.search.proofs.first_start.Statement.{statement}
 use Rattle.search.proofs.first_start.Tie as tie
 

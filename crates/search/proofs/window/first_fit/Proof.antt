@@ -6,10 +6,10 @@ use native.Mathlib.Omega.{arith}
 use borrow.Author.Needs.{needs}
 use borrow.Author.Tests.{not-true}
 use Rattle.load.specs.Stream.{lengthOf}
-use Rattle.search.specs.Fit.{answerOf}
-use Rattle.search.specs.Search.{fits, testsOf, NoneFits}
-use Rattle.search.specs.FitLaws.{fits-memory}
-use Rattle.search.specs.MemoryLaws.{front-length, front-small, taken-alone}
+use Rattle.search.specs.Answers.{answerOf}
+use Rattle.fitting.specs.Search.{fits, testsOf, NoneFits}
+use Rattle.fitting.specs.FitLaws.{fits-memory}
+use Rattle.fitting.specs.MemoryLaws.{front-length, front-small, taken-alone}
 use Rattle.search.specs.WindowLaws.{none-found}
 use Rattle.search.proofs.window.first_fit.Statement.{statement}
 use Rattle.search.proofs.window.first_fit.Tie as tie

@@ -4,9 +4,9 @@ use Prim.Native.Nat.{suc, _+_, _-_}
 use mathlib.Core.Path.{refl}
 use native.Mathlib.Omega.{arith}
 use borrow.Author.Needs.{needs}
-use Rattle.search.specs.Fit.{memoryFits}
-use Rattle.search.specs.FitLaws.{fewer-held}
-use Rattle.search.specs.Search.{RefusedTo}
+use Rattle.fitting.specs.Fit.{memoryFits}
+use Rattle.fitting.specs.FitLaws.{fewer-held}
+use Rattle.fitting.specs.Search.{RefusedTo}
 use Rattle.search.specs.StepLaws.{refused-next}
 use Rattle.search.proofs.window.skip_near.Statement.{statement}
 use Rattle.search.proofs.window.skip_near.Tie as tie

@@ -4,8 +4,8 @@ use Prim.Native.Nat.{_+_}
 use native.Mathlib.Omega.{arith}
 use borrow.Author.Needs.{needs}
 use Rattle.load.specs.Stream.{lengthOf}
-use Rattle.search.specs.Search.{Tests, testsOf, Clear}
-use Rattle.search.specs.FitLaws.{fewer-held, fewer-disk}
+use Rattle.fitting.specs.Search.{Tests, testsOf, Clear}
+use Rattle.fitting.specs.FitLaws.{fewer-held, fewer-disk}
 use Rattle.search.specs.StepLaws.{skip-memory, skip-disk, clear-all, skip-cabs, fits-now}
 use Rattle.search.proofs.window.try_start.Statement.{statement}
 use Rattle.search.proofs.window.try_start.Tie as tie

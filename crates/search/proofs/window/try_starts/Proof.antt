@@ -8,10 +8,11 @@ use native.Mathlib.Omega.{arith}
 use borrow.Author.Needs.{needs}
 use lib.ListN.{length}
 use Rattle.load.specs.Stream.{lengthOf}
-use Rattle.search.specs.Fit.{answerOf}
-use Rattle.search.specs.Search.{Tests, fits, testsOf, Clear, NoneFits, Skips, Tells}
+use Rattle.search.specs.Answers.{answerOf}
+use Rattle.fitting.specs.Search.{Tests, fits, testsOf, Clear, NoneFits, Skips}
+use Rattle.search.specs.Answers.{Tells}
 use Rattle.search.specs.StepLaws.{none-refused, clear-on, none-on}
-use Rattle.search.specs.Blocks.{marks, AlwaysTaken, none-taken}
+use Rattle.fitting.specs.Blocks.{marks, AlwaysTaken, none-taken}
 use Rattle.search.specs.WindowLaws.{first-found, none-found}
 use Rattle.search.proofs.window.try_starts.Statement.{statement}
 use Rattle.search.proofs.window.try_starts.Tie as tie

@@ -1,0 +1,13 @@
+-- `fitting::cabs::common` meets its contract, by its test. Assumes nothing.
+use borrow.Author.Tests.{eq-eqb, ne-eqb}
+use Rattle.fitting.proofs.cabs.common.Statement.{statement}
+use Rattle.fitting.proofs.cabs.common.Tie as tie
+
+returns : tie.Need-returns
+returns c = simp (eq-eqb _ _ (c .if1 .taken))
+
+returns-2 : tie.Need-returns-2
+returns-2 c = simp (ne-eqb _ _ (c .if1 .left))
+
+pub common-spec : {M : Type 1} → statement M
+common-spec = tie.close (tie.spec returns returns-2)
