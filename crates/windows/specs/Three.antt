@@ -1,7 +1,7 @@
 -- Three streams added to a window at once: the rounds from w to e - 1, the first of a list's places. Assumes nothing.
 use mathlib.Core.Path.{_≡_, sym, ap, _∙_}
 use mathlib.Core.List.{List, _++_}
-use Prim.Native.Nat.{ℕ, _+_, _-_, _*_, _^_, _≤_, _<_}
+use Prim.Native.Nat.{ℕ, _+_, _-_, _*_, _^_, _≤_, _<_, min, max}
 use native.Mathlib.Decide.{decLe}
 use native.Mathlib.Omega.{arith}
 use lib.ListN.{length, getD, take, drop, length-append, length-take, length-drop, List·getD-append}
@@ -52,6 +52,14 @@ pub record AddedThree (f : List ℕ) (x y z : Stream) (before after : List ℕ) 
 pub record ShowsThrough (x : Stream) (w e : ℕ) : Type 0 where
   pub from : x .start + x .prefetch ≤ w
   pub upto : e ≤ endOf x
+
+-- the first of the rounds from w on in which all three streams have begun to show
+unfoldable pub shownFrom : ℕ → Stream → Stream → Stream → ℕ
+shownFrom w x y z = max (max w (x .start + x .prefetch)) (max (y .start + y .prefetch) (z .start + z .prefetch))
+
+-- the last of the rounds up to e before which none of three streams has ended
+unfoldable pub shownUntil : ℕ → Stream → Stream → Stream → ℕ
+shownUntil e x y z = min (min e (endOf x)) (min (endOf y) (endOf z))
 
 -- the stream's rounds from round t of the day on
 abbrev pub runFrom : Stream → ℕ → Run

@@ -6,10 +6,11 @@ use profiles::three::add_three;
 ghost use mathlib.Core.Path.{_≡_};
 ghost use mathlib.Core.Bool.{false};
 ghost use Prim.Native.Nat.{_+_, _≤_, min, max};
+ghost use lib.Dec.{ltb};
 ghost use Rattle.load.specs.Basic.{Bounded};
 ghost use Rattle.load.specs.Stream.{endOf};
 ghost use Rattle.windows.specs.Memory.{Windowed, Added};
-ghost use Rattle.windows.specs.Three.{WindowedThree, AddedThree, ShowsThrough, runFrom};
+ghost use Rattle.windows.specs.Three.{WindowedThree, AddedThree, ShowsThrough, shownFrom, shownUntil, runFrom};
 
 // rounds in which three streams are worth adding at once, at least
 const FEW: usize = 16;
@@ -140,7 +141,7 @@ fn add_from(
 // The first of the rounds from w on in which all three streams have begun to show.
 fn shown_from(w: usize, x: Stream, y: Stream, z: Stream) -> usize
     requires { ⌜ Bounded x × Bounded y × Bounded z ⌝ }
-    ensures { λ r. ⌜ (w ≤ r) × (x .start + x .prefetch ≤ r) × (y .start + y .prefetch ≤ r) × (z .start + z .prefetch ≤ r) ⌝ }
+    ensures { λ r. ⌜ (r ≡ shownFrom w x y z) × (w ≤ r) × (x .start + x .prefetch ≤ r) × (y .start + y .prefetch ≤ r) × (z .start + z .prefetch ≤ r) ⌝ }
 {
     larger(
         larger(w, x.start + x.prefetch),
@@ -151,7 +152,7 @@ fn shown_from(w: usize, x: Stream, y: Stream, z: Stream) -> usize
 // The last of the rounds up to e before which none of three streams has ended.
 fn shown_until(e: usize, x: Stream, y: Stream, z: Stream) -> usize
     requires { ⌜ Bounded x × Bounded y × Bounded z ⌝ }
-    ensures { λ r. ⌜ (r ≤ e) × (r ≤ endOf x) × (r ≤ endOf y) × (r ≤ endOf z) ⌝ }
+    ensures { λ r. ⌜ (r ≡ shownUntil e x y z) × (r ≤ e) × (r ≤ endOf x) × (r ≤ endOf y) × (r ≤ endOf z) ⌝ }
 {
     smaller(
         smaller(e, x.start + x.prefetch + x.rounds),
@@ -164,7 +165,7 @@ fn shown_until(e: usize, x: Stream, y: Stream, z: Stream) -> usize
 
 // Whether the rounds from m to e - 1 are few.
 fn few(m: usize, e: usize) -> bool
-    ensures { λ r. ⌜ (r ≡ false → m ≤ e) ⌝ }
+    ensures { λ r. ⌜ (r ≡ ltb e (m + 16)) × (r ≡ false → m ≤ e) ⌝ }
 {
     if e < m {
         return true;

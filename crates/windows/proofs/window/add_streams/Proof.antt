@@ -26,7 +26,7 @@ returns : tie.Need-returns
 returns c = search needs
 
 sub-place : tie.Need-sub-place
-sub-place c = omega (arith, c .before .few .ensures (c .if1 .left), c .before .before .before .shown-from .ensures)
+sub-place c = omega (arith, c .before .few .ensures .1 (c .if1 .left), c .before .before .before .shown-from .ensures)
 
 mul-add-singly : tie.Need-mul-add-singly
 mul-add-singly c = search needs
@@ -46,8 +46,8 @@ add-singly-requires-2 c κs =
     let from = c .before .before .before .before .shown-from in
     let upto = c .before .before .before .shown-until in
     let last = upto .result in
-    let ordered = c .before .before .few .ensures (c .before .if1 .left) in
-    rw (tail-part (last - a .w) (a .window .now)) (tail-asks (a .file .now) (a .x) (a .y) (a .z) (a .window .now) (a .w) last (a .e) (a .c) (c .before .before .before .before .before .before .before .pre) (omega (arith, ordered, from .ensures)) (upto .ensures .0))
+    let ordered = c .before .before .few .ensures .1 (c .before .if1 .left) in
+    rw (tail-part (last - a .w) (a .window .now)) (tail-asks (a .file .now) (a .x) (a .y) (a .z) (a .window .now) (a .w) last (a .e) (a .c) (c .before .before .before .before .before .before .before .pre) (omega (arith, ordered, from .ensures)) (upto .ensures .1))
 
 slice-relend-prefix-add-from : tie.Need-slice-relend-prefix-add-from
 slice-relend-prefix-add-from c = search needs
@@ -58,9 +58,9 @@ slice-aggregate-add-from c =
     let from = c .before .before .before .before .before .before .before .before .shown-from in
     let upto = c .before .before .before .before .before .before .before .shown-until in
     let last = upto .result in
-    let ordered = c .before .before .before .before .before .before .few .ensures (c .before .before .before .before .before .if1 .left) in
+    let ordered = c .before .before .before .before .before .before .few .ensures .1 (c .before .before .before .before .before .if1 .left) in
     let tail = c .before .before .before .add-singly2 in
-    rw (tail-back (last - a .w) (a .window .now) (tail .last .1 .1 .1 .1 .0)) (head-length (a .file .now) (a .x) (a .y) (a .z) (a .window .now) (a .w) last (a .e) (a .c) (c .before .before .before .before .before .before .before .before .before .before .before .pre) (omega (arith, ordered, from .ensures)) (upto .ensures .0) (tail .last .1 .1 .1 .1 .0) (tail .result) (rw (tail-part (last - a .w) (a .window .now)) at (tail .ensures)))
+    rw (tail-back (last - a .w) (a .window .now) (tail .last .1 .1 .1 .1 .0)) (head-length (a .file .now) (a .x) (a .y) (a .z) (a .window .now) (a .w) last (a .e) (a .c) (c .before .before .before .before .before .before .before .before .before .before .before .pre) (omega (arith, ordered, from .ensures)) (upto .ensures .1) (tail .last .1 .1 .1 .1 .0) (tail .result) (rw (tail-part (last - a .w) (a .window .now)) at (tail .ensures)))
 
 add-from-requires : tie.Need-add-from-requires
 add-from-requires c κs =
@@ -68,14 +68,14 @@ add-from-requires c κs =
     let from = c .before .before .before .before .before .before .before .before .shown-from in
     let upto = c .before .before .before .before .before .before .before .shown-until in
     let last = upto .result in
-    let ordered = c .before .before .before .before .before .before .few .ensures (c .before .before .before .before .before .if1 .left) in
+    let ordered = c .before .before .before .before .before .before .few .ensures .1 (c .before .before .before .before .before .if1 .left) in
     let tail = c .before .before .before .add-singly2 in (
-      rw (tail-back (last - a .w) (a .window .now) (tail .last .1 .1 .1 .1 .0)) (head-asks (a .file .now) (a .x) (a .y) (a .z) (a .window .now) (a .w) last (a .e) (a .c) (c .before .before .before .before .before .before .before .before .before .before .before .pre) (omega (arith, ordered, from .ensures)) (upto .ensures .0) (tail .last .1 .1 .1 .1 .0) (tail .result) (rw (tail-part (last - a .w) (a .window .now)) at (tail .ensures))),
-      from .ensures .0,
+      rw (tail-back (last - a .w) (a .window .now) (tail .last .1 .1 .1 .1 .0)) (head-asks (a .file .now) (a .x) (a .y) (a .z) (a .window .now) (a .w) last (a .e) (a .c) (c .before .before .before .before .before .before .before .before .before .before .before .pre) (omega (arith, ordered, from .ensures)) (upto .ensures .1) (tail .last .1 .1 .1 .1 .0) (tail .result) (rw (tail-part (last - a .w) (a .window .now)) at (tail .ensures))),
+      from .ensures .1,
       ordered,
-      record { from = from .ensures .1; upto = upto .ensures .1 },
       record { from = from .ensures .2; upto = upto .ensures .2 },
       record { from = from .ensures .3; upto = upto .ensures .3 },
+      record { from = from .ensures .4; upto = upto .ensures .4 },
     )
 
 same-length-2 : tie.Need-same-length-2
@@ -87,11 +87,11 @@ returns-2 c =
     let from = c .before .before .before .before .before .before .before .before .before .before .before .shown-from in
     let upto = c .before .before .before .before .before .before .before .before .before .before .shown-until in
     let last = upto .result in
-    let ordered = c .before .before .before .before .before .before .before .before .before .few .ensures (c .before .before .before .before .before .before .before .before .if1 .left) in
+    let ordered = c .before .before .before .before .before .before .before .before .before .few .ensures .1 (c .before .before .before .before .before .before .before .before .if1 .left) in
     let tail = c .before .before .before .before .before .before .add-singly2 in
     let head = c .before .before .add-from in
     rw (tail-back (last - a .w) (a .window .now) (tail .last .1 .1 .1 .1 .0))
-    (parts-added (a .file .now) (a .x) (a .y) (a .z) (a .window .now) (a .w) last (a .e) (a .c) (c .before .before .before .before .before .before .before .before .before .before .before .before .before .before .pre) (omega (arith, ordered, from .ensures)) (upto .ensures .0) (tail .last .1 .1 .1 .1 .0) (tail .result) (rw (tail-part (last - a .w) (a .window .now)) at (tail .ensures)) (head .last .1 .1 .1 .1 .0) (head .result) (rw (tail-back (last - a .w) (a .window .now) (tail .last .1 .1 .1 .1 .0)) at (head .ensures)))
+    (parts-added (a .file .now) (a .x) (a .y) (a .z) (a .window .now) (a .w) last (a .e) (a .c) (c .before .before .before .before .before .before .before .before .before .before .before .before .before .before .pre) (omega (arith, ordered, from .ensures)) (upto .ensures .1) (tail .last .1 .1 .1 .1 .0) (tail .result) (rw (tail-part (last - a .w) (a .window .now)) at (tail .ensures)) (head .last .1 .1 .1 .1 .0) (head .result) (rw (tail-back (last - a .w) (a .window .now) (tail .last .1 .1 .1 .1 .0)) at (head .ensures)))
 
 pub add-streams-spec : {M : Type 1} → statement M
 add-streams-spec =
