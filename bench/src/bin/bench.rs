@@ -3,12 +3,14 @@
 //!     bench [--write DOCUMENT PICTURES] [--quick] [--hall PROGRAM] [PART ..]
 //!     bench instructions VERSION CASE
 //!
-//! Parts: files, days, sheets, starts, searches, replays, console, growth, stack, instructions; all where none is named.
+//! Parts: files, days, sheets, starts, refusals, searches, replays, console, growth, stack, instructions; all where none is named.
 
 use bench::days::Size;
 use bench::document::rewrite;
 use bench::measure::Effort;
-use bench::speed::cases::{file_cases, replay_case, search_cases, sheet_cases, start_cases};
+use bench::speed::cases::{
+    file_cases, refusal_cases, replay_case, search_cases, sheet_cases, start_cases,
+};
 use bench::speed::console::console;
 use bench::speed::growth::growth;
 use bench::speed::instructions::{instructions, run_case};
@@ -112,6 +114,12 @@ fn main() {
     }
     if wanted("starts") {
         texts.push(("starts", cases_table(&start_cases(), effort, &mut ratios)));
+    }
+    if wanted("refusals") {
+        texts.push((
+            "refusals",
+            cases_table(&refusal_cases(), effort, &mut ratios),
+        ));
     }
     if wanted("searches") {
         texts.push((

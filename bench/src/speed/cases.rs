@@ -107,6 +107,38 @@ pub fn start_cases() -> Vec<Case> {
     cases.collect()
 }
 
+/// Calls that a question of their own refuses, on a short day and on long ones.
+pub fn refusal_cases() -> Vec<Case> {
+    let sizes = [(1_024, 64, 64), (86_400, 1, 64), (86_400, 255, 4_096)];
+    let cases = sizes.into_iter().flat_map(|(rounds, bookings, film)| {
+        let size = Size {
+            rounds,
+            bookings,
+            film,
+        };
+        let place = format!("{} / {}, {bookings}", grouped(rounds), grouped(film));
+        let state = State::new(day(size));
+        let mut taken = state.clone();
+        taken.fixture.request.name = taken.fixture.records[0].name;
+        let mut unscheduled = state.clone();
+        unscheduled.fixture.request.reserve = 0;
+        [
+            case(&format!("book, name taken, {place}"), Call::Book, taken),
+            case(
+                &format!("book, no schedule, {place}"),
+                Call::Book,
+                unscheduled,
+            ),
+            case(
+                &format!("drop, no such name, {place}"),
+                Call::DropUnknown,
+                state,
+            ),
+        ]
+    });
+    cases.collect()
+}
+
 /// Searches of a window of the whole day, all refused.
 pub fn search_cases() -> Vec<Case> {
     let refused = |name, by| case(name, Call::Book, State::new(refused_all_day(by)));

@@ -5,7 +5,7 @@ use crate::fast::Fast;
 use crate::measure::{measure, ratio, thread_time, Effort, Timed, Times};
 use crate::obvious::Obvious;
 use crate::scheduler::{Library, Scheduler, Sheet};
-use playback::{Booking, Line};
+use playback::{Booking, Line, Refusal};
 use std::hint::black_box;
 use std::time::Duration;
 
@@ -13,10 +13,18 @@ use std::time::Duration;
 #[derive(Clone, Copy, Debug, PartialEq, Eq)]
 pub enum Call {
     Verdict,
-    Schedule { film: u64, reserve: u64 },
-    LeastReserve { film: u64, cap: u64 },
+    Schedule {
+        film: u64,
+        reserve: u64,
+    },
+    LeastReserve {
+        film: u64,
+        cap: u64,
+    },
     Book,
     Drop,
+    /// A drop of a name that no booking bears.
+    DropUnknown,
     Play,
     Replay,
 }
@@ -85,20 +93,27 @@ impl Lent {
     }
 }
 
-/// A call of a version again and again. Each book and each drop is lent lists of its own, as they stood before the call.
+/// A call of a version again and again. Where a call changes what it is lent, each is lent lists of its own, as they stood before it.
 struct Repeated<'a> {
     version: &'a dyn Scheduler,
     call: Call,
+    changes: bool,
     state: &'a State,
     lent: Vec<Lent>,
     next: usize,
 }
 
 impl<'a> Repeated<'a> {
-    fn new(version: &'a dyn Scheduler, call: Call, state: &'a State) -> Repeated<'a> {
+    fn new(
+        version: &'a dyn Scheduler,
+        call: Call,
+        changes: bool,
+        state: &'a State,
+    ) -> Repeated<'a> {
         Repeated {
             version,
             call,
+            changes,
             state,
             lent: vec![Lent::of(state)],
             next: 0,
@@ -108,7 +123,7 @@ impl<'a> Repeated<'a> {
 
 impl Timed for Repeated<'_> {
     fn prepare(&mut self, calls: usize) {
-        if let Call::Book | Call::Drop = self.call {
+        if self.changes {
             while self.lent.len() < calls {
                 self.lent.push(Lent::day_of(self.state));
             }
@@ -127,7 +142,7 @@ impl Timed for Repeated<'_> {
             state,
             &mut self.lent[self.next],
         ));
-        if let Call::Book | Call::Drop = self.call {
+        if self.changes {
             self.next += 1;
         }
     }
@@ -174,6 +189,9 @@ fn carry_out(version: &dyn Scheduler, call: Call, state: &State, lent: &mut Lent
             let name = records[day.count as usize / 2].name;
             version.drop_booking(file, *day, &mut lent.records, name, &mut lent.sheet)
         }
+        Call::DropUnknown => {
+            version.drop_booking(file, *day, &mut lent.records, 0, &mut lent.sheet)
+        }
         Call::Play => version.play(file, *day, records, &mut lent.report),
     };
     [
@@ -182,6 +200,12 @@ fn carry_out(version: &dyn Scheduler, call: Call, state: &State, lent: &mut Lent
         reply.films,
         reply.cabs + 1_000 * reply.day.count,
     ]
+}
+
+/// Whether a call with that refusal, or 0, changes the day's lists: a refused one does not, but that 22 works the sheet out.
+fn changes_lists(call: Call, refusal: u64) -> bool {
+    let answered = refusal == 0 || refusal == u64::from(Refusal::NoStart.number());
+    matches!(call, Call::Book | Call::Drop) && answered
 }
 
 /// How long the obvious version takes.
@@ -232,8 +256,9 @@ pub fn contest(call: Call, state: &State, effort: Effort, try_obvious: bool) -> 
     } else {
         Slow::NotTried
     };
-    let mut library = Repeated::new(&Library, call, state);
-    let mut fast = Repeated::new(&Fast, call, state);
+    let changes = changes_lists(call, answer[0]);
+    let mut library = Repeated::new(&Library, call, changes, state);
+    let mut fast = Repeated::new(&Fast, call, changes, state);
     let (library, fast) = if once > LONG {
         let mut times = measure(thread_time, effort, &mut [&mut fast]);
         (Times::once(once), times.swap_remove(0))
@@ -271,7 +296,8 @@ fn obvious(call: Call, state: &State, answer: [u64; 4], expected: &Lent) -> Slow
         time: Duration::from_millis(60),
         run: Duration::from_micros(1),
     };
-    let mut again = Repeated::new(&version, call, state);
+    let changes = changes_lists(call, answer[0]);
+    let mut again = Repeated::new(&version, call, changes, state);
     Slow::Takes(measure(thread_time, effort, &mut [&mut again])[0].median())
 }
 

@@ -16,7 +16,8 @@ use model::Booking;
 use model::Day;
 use model::Request;
 use questions::laying::lay_checked;
-use questions::standing::examine;
+use questions::standing::examine_if;
+use request::early_number;
 use request::own_number;
 use request::requested;
 use search::Found;
@@ -43,7 +44,7 @@ ghost use Rattle.questions.specs.SheetOf.{SheetKept};
 ghost use Rattle.table.specs.Columns.{tableWords};
 ghost use Rattle.table.specs.Streams.{streams};
 ghost use Rattle.booking.specs.Contract.{Leaves, Placeable, Places, Recordable, dayBooked, rowsBooked, Bookable, Books, SomePass, BooksLent};
-ghost use Rattle.booking.specs.Own.{maxLength, requestOf};
+ghost use Rattle.booking.specs.Own.{maxLength, requestOf, OwnNumber};
 
 // What a booking gives: the answer, the day and the list's first 256 places. These stand first for the pace at which they are copied
 // (docs/BENCHMARKS.md, 'What makes the difference').
@@ -135,7 +136,8 @@ fn record_answer(day: Day, rows: [Booking; MAX_BOOKINGS], q: Request, answer: An
 // The answer where the file's questions, 14, 15, 11 and 16 have passed of some records: where booking's own pass too, the sheet of the
 // standing bookings is laid down, whatever stood there, and the request is placed on it. The table is that of the standing bookings,
 // `opened` and `closed` have the rounds in which they open and end, and where `same` the sums of bytes held are right, packed so with the
-// numbers lent: a refusal leaves nothing changed, so it puts these back. The request's stream is y. The record is the caller's to write.
+// numbers lent: a refusal leaves nothing changed, so it puts these back. The request's stream is y, the number of booking's own questions
+// is `number`, and where it is 0 `profile` begins with what y holds. The record is the caller's to write.
 fn book_checked(
     file: &[u8],
     day: Day,
@@ -143,6 +145,8 @@ fn book_checked(
     q: Request,
     table: &[u64],
     y: Stream,
+    number: u32,
+    profile: &[u64],
     opened: &[u64],
     closed: &[u64],
     same: bool,
@@ -151,11 +155,9 @@ fn book_checked(
     reserves: &mut [u64],
     helds: &mut [u64],
 ) -> Answer
-    requires { ⌜ (y ≡ requestOf (now file) q) × SomePass (now file) day places (now table) (now opened) (now closed) same packed (now opens) (now reserves) (now helds) ⌝ }
+    requires { ⌜ (y ≡ requestOf (now file) q) × SomePass (now file) day places (now table) (now opened) (now closed) same packed (now opens) (now reserves) (now helds) × OwnNumber (now file) day (now table) places q y (now profile) number (now profile) × (maxLength ≤ length (now profile)) ⌝ }
     ensures { λ r. ⌜ BooksLent (now (file .entry)) day places q (now (table .entry)) (now (opened .entry)) (now (closed .entry)) same packed (now (opens .entry)) (now (reserves .entry)) (now (helds .entry)) r (now (opens .exit)) (now (reserves .exit)) (now (helds .exit)) ⌝ }
 {
-    let mut profile = [0u64; MAX_LENGTH];
-    let number = own_number(file, day, table, places, q, y, &mut profile);
     if number != 0 {
         restore(packed, helds);
         return Answer::Refused(number);
@@ -237,7 +239,8 @@ pub fn book_kept(
     record_answer(day, rows, q, answer)
 }
 
-// Booking: the answer, the day, every record place and every place of the sheet afterwards are the model's, for every input.
+// Booking: the answer, the day, every record place and every place of the sheet afterwards are the model's, for every input. Booking's own
+// questions are asked first, since the sums of bytes held need not be looked at where one of them says no.
 // Where the questions before 22 pass, a booking starts in the first round of its window at which some schedules fit, and is
 // refused 22 exactly when there is none.
 pub fn book(
@@ -257,9 +260,13 @@ pub fn book(
     let mut table = [0u64; TABLE_WORDS];
     let mut opened = [0u64; MAX_BOOKINGS];
     let mut closed = [0u64; MAX_BOOKINGS];
+    let mut profile = [0u64; MAX_LENGTH];
     let listed = smaller(day.count, MAX_BOOKINGS as u64);
     tabulate(c, rows, listed as usize, &mut table);
-    let examined = examine(
+    let y = requested(c, q);
+    let own = early_number(file, c.verdict, day, &table, places, q, y, &mut profile);
+    let examined = examine_if(
+        own == 0,
         file,
         c.verdict,
         day,
@@ -288,7 +295,9 @@ pub fn book(
         places,
         q,
         &table,
-        requested(c, q),
+        y,
+        own,
+        &profile,
         &opened,
         &closed,
         same,

@@ -3,6 +3,7 @@ use films::lookup::lookup;
 use films::types::Catalogue;
 use films::types::Lookup;
 use limits::bounds::MAX_BOOKINGS;
+use limits::bounds::MAX_DAY;
 use limits::bounds::MAX_PREFETCH;
 use limits::bounds::MAX_RESERVE;
 use limits::refusals::LIST_FULL;
@@ -133,4 +134,31 @@ pub fn own_number(
         return LIST_FULL;
     }
     0
+}
+
+// `own_number`, asked before the questions that come first: 0 where these are sure to say no, of a refused file, of more than 256 bookings
+// and of a day that is too long.
+pub fn early_number(
+    file: &[u8],
+    refused: u32,
+    day: Day,
+    table: &[u64],
+    places: u64,
+    q: Request,
+    y: Stream,
+    profile: &mut [u64],
+) -> u32
+    requires { ⌜ (refused ≡ verdict (now file)) × (y ≡ requestOf (now file) q) × (tableWords ≤ length (now table)) × (maxLength ≤ length (now profile)) ⌝ }
+    ensures { λ r. ⌜ (verdict (now (file .entry)) ≡ 0 → day .count ≤ maxBookings → day .rounds ≤ maxDay → OwnNumber (now (file .entry)) day (now (table .entry)) places q y (now (profile .entry)) r (now (profile .exit))) ⌝ }
+{
+    if refused != 0 {
+        return 0;
+    }
+    if (MAX_BOOKINGS as u64) < day.count {
+        return 0;
+    }
+    if MAX_DAY < day.rounds {
+        return 0;
+    }
+    own_number(file, day, table, places, q, y, profile)
 }

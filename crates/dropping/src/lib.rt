@@ -8,7 +8,7 @@ use model::Answer;
 use model::Booking;
 use model::Day;
 use questions::laying::lay_checked;
-use questions::standing::examine;
+use questions::standing::examine_if;
 use removal::records::find_row;
 use removal::records::position;
 use removal::records::without;
@@ -177,7 +177,8 @@ fn drop_checked(
 }
 
 // Takes the booking of this name out of the list: the gap is closed, the place freed is zeroed, and the sheet is worked out
-// from the rest. Refused, everything stays.
+// from the rest. Refused, everything stays. The name is looked for first, since the sums of bytes held need not be looked at where none
+// bears it.
 pub fn drop_booking(
     file: &[u8],
     day: Day,
@@ -194,13 +195,11 @@ pub fn drop_booking(
     let mut table = [0u64; TABLE_WORDS];
     let mut opened = [0u64; MAX_BOOKINGS];
     let mut closed = [0u64; MAX_BOOKINGS];
-    tabulate(
-        c,
-        rows,
-        smaller(day.count as usize, MAX_BOOKINGS),
-        &mut table,
-    );
-    let examined = examine(
+    let listed = smaller(day.count as usize, MAX_BOOKINGS);
+    tabulate(c, rows, listed, &mut table);
+    let place = find_row(&table, listed, name);
+    let examined = examine_if(
+        place < listed,
         file,
         c.verdict,
         day,

@@ -90,3 +90,60 @@ pub fn examine(
         packed,
     }
 }
+
+// `examine`, but that nothing is said of `helds`, and it is not read, unless `wanted`: a call that a question of its own refuses leaves the
+// sheet as it was lent.
+pub fn examine_if(
+    wanted: bool,
+    file: &[u8],
+    refused: u32,
+    day: Day,
+    table: &[u64],
+    places: u64,
+    opens: usize,
+    reserves: usize,
+    held_places: usize,
+    opened: &mut [u64],
+    closed: &mut [u64],
+    helds: &mut [u64],
+) -> Examined
+    requires { ⌜ (refused ≡ verdict (now file)) × Workspace (now table) (now opened) (now closed) × (refused ≡ 0 → day .count ≤ maxBookings → EachOf (Listed (now file)) (day .count) (streams (now table))) ⌝ }
+    ensures { λ r. ⌜ Examines (now (file .entry)) day (now (table .entry)) places opens reserves «held_places» (heldsOf (r .packed) (now (helds .exit))) r (now (opened .exit)) (now (closed .exit)) ⌝ }
+    ensures { λ _. ⌜ Workspace (now (table .entry)) (now (opened .exit)) (now (closed .exit)) ⌝ }
+    ensures { λ r. ⌜ (Settled (r .packed) (day .rounds) (now (helds .entry)) (now (helds .exit)) × ((r .number ≡ 0 → ⊥) → r .packed .rounds ≡ 0)) ⌝ }
+{
+    if wanted {
+        return examine(
+            file,
+            refused,
+            day,
+            table,
+            places,
+            opens,
+            reserves,
+            held_places,
+            opened,
+            closed,
+            helds,
+        );
+    }
+    let mut none = [0u64; 1];
+    let asked = examine(
+        file,
+        refused,
+        day,
+        table,
+        places,
+        opens,
+        reserves,
+        held_places,
+        opened,
+        closed,
+        &mut none,
+    );
+    Examined {
+        number: asked.number,
+        same: false,
+        packed: Packed { bits: 0, rounds: 0 },
+    }
+}

@@ -5,21 +5,12 @@ use mathlib.Core.Path.{_≡_}
 use Prim.Native.Nat.{ℕ}
 use native.Mathlib.Omega.{arith}
 use Rattle.laws.specs.Words.{Bytes}
-use Rattle.booking.specs.CheckedLaws.{pass-held, pass-refused, pass-short, pass-front, pass-lays, pass-placeable, pass-leaves}
+use Rattle.booking.specs.CheckedLaws.{pass-refused, pass-short, pass-front, pass-lays, pass-placeable, pass-leaves}
 use Rattle.booking.proofs.book_checked.Statement.{statement}
 use Rattle.booking.proofs.book_checked.Tie as tie
 
-bytes : (c : tie.After-own-number) → Bytes (c .before .before .before .before .before .before .before .before .before .args .file .now)
+bytes : (c : tie.Else1) → Bytes (c .before .before .before .before .before .before .before .before .before .args .file .now)
 bytes c k = omega (arith, c .before .before .before .before .before .before .before .before .shared-slice-known .given k)
-
-slice-aggregate-own-number : tie.Need-slice-aggregate-own-number
-slice-aggregate-own-number c = search needs
-
-own-number-requires : tie.Need-own-number-requires
-own-number-requires c κs =
-    let pre = c .before .before .before .before .before .before .before .before .pre in
-    let held = pass-held (pre .1 .pass) in
-    (pre .0, held .accepted, held .few, held .rounds, pre .1 .pass .workspace .words, search needs)
 
 restore-requires : tie.Need-restore-requires
 restore-requires c κs = search needs
@@ -29,9 +20,10 @@ same-length c = search needs
 
 returns : tie.Need-returns
 returns c =
+    let pre = c .before .before .before .before .before .before .before .before .before .before .before .before .before .pre in
     let restored = c .before .before .restore in
     record {
-      leaves = λ rows lent g w. pass-refused g (c .before .before .before .before .before .before .own-number .ensures) (c .before .before .before .before .if1 .taken) lent _ w (restored .ensures);
+      leaves = λ rows lent g w. pass-refused g (pre .2) (c .before .before .before .before .if1 .taken) lent _ w (restored .ensures);
       recordable = λ s e. let z : _≡_ {A = ℕ} 0 1 = cc in absurd (omega arith);
     }
 
@@ -40,33 +32,23 @@ settle-requires c κs = search needs
 
 lay-checked-requires : tie.Need-lay-checked-requires
 lay-checked-requires c κs =
-    let pre = c .before .before .before .before .before .before .before .before .before .before .before .before .before .before .before .before .before .before .pre in
-    let asked = c .before .before .before .before .before .before .before .before .before in
-    pass-lays (pre .1 .pass) (asked .own-number .ensures) (bytes asked) (pre .0) (c .before .before .before .before .before .before .before .if1 .left) (c .before .before .before .before .before .settle .ensures)
+    let pre = c .before .before .before .before .before .before .before .before .before .before .before .before .before .before .before .before .pre in
+    pass-lays (pre .1 .pass) (pre .2) (bytes (c .before .before .before .before .before .before .before)) (pre .0) (c .before .before .before .before .before .before .before .if1 .left) (c .before .before .before .before .before .settle .ensures)
 
 add-n : tie.Need-add-n
 add-n c =
-    let pre = c .before .before .before .before .before .before .before .before .before .before .before .before .before .before .before .before .before .before .before .before .before .before .before .before .before .before .pre in
-    let asked = c .before .before .before .before .before .before .before .before .before .before .before .before .before .before .before .before .before in
-    omega (arith, pass-short (pre .1 .pass) (asked .own-number .ensures) (bytes asked) (pre .0) (c .before .before .before .before .before .before .before .before .before .before .before .before .before .before .before .if1 .left))
-
-array-share-prefix-profile : tie.Need-array-share-prefix-profile
-array-share-prefix-profile c =
-    let pre = c .before .before .before .before .before .before .before .before .before .before .before .before .before .before .before .before .before .before .before .before .before .before .before .before .before .before .pre in
-    let asked = c .before .before .before .before .before .before .before .before .before .before .before .before .before .before .before .before .before in
-    omega (arith, pass-short (pre .1 .pass) (asked .own-number .ensures) (bytes asked) (pre .0) (c .before .before .before .before .before .before .before .before .before .before .before .before .before .before .before .if1 .left), asked .own-number .ensures .same)
+    let pre = c .before .before .before .before .before .before .before .before .before .before .before .before .before .before .before .before .before .before .before .before .before .before .before .before .pre in
+    omega (arith, pass-short (pre .1 .pass) (pre .2) (bytes (c .before .before .before .before .before .before .before .before .before .before .before .before .before .before .before)) (pre .0) (c .before .before .before .before .before .before .before .before .before .before .before .before .before .before .before .if1 .left))
 
 slice-aggregate-place-on : tie.Need-slice-aggregate-place-on
 slice-aggregate-place-on c =
-    let pre = c .before .before .before .before .before .before .before .before .before .before .before .before .before .before .before .before .before .before .before .before .before .before .before .before .before .before .before .pre in
-    let asked = c .before .before .before .before .before .before .before .before .before .before .before .before .before .before .before .before .before .before in
-    pass-front (pre .1 .pass) (asked .own-number .ensures) (bytes asked) (pre .0) (c .before .before .before .before .before .before .before .before .before .before .before .before .before .before .before .before .if1 .left) (search needs)
+    let pre = c .before .before .before .before .before .before .before .before .before .before .before .before .before .before .before .before .before .before .before .before .before .before .before .before .before .pre in
+    pass-front (pre .1 .pass) (pre .2) (bytes (c .before .before .before .before .before .before .before .before .before .before .before .before .before .before .before .before)) (pre .0) (c .before .before .before .before .before .before .before .before .before .before .before .before .before .before .before .before .if1 .left) (pre .3)
 
 place-on-requires : tie.Need-place-on-requires
 place-on-requires c κs =
-    let pre = c .before .before .before .before .before .before .before .before .before .before .before .before .before .before .before .before .before .before .before .before .before .before .before .before .before .before .before .before .before .before .pre in
-    let asked = c .before .before .before .before .before .before .before .before .before .before .before .before .before .before .before .before .before .before .before .before .before in
-    pass-placeable (pre .1 .pass) (asked .own-number .ensures) (bytes asked) (pre .0) (c .before .before .before .before .before .before .before .before .before .before .before .before .before .before .before .before .before .before .before .if1 .left) (c .before .before .before .before .before .before .before .before .before .before .before .before .before .before .before .before .before .settle .ensures) (c .before .before .before .before .before .before .before .before .before .before .before .lay-checked .ensures)
+    let pre = c .before .before .before .before .before .before .before .before .before .before .before .before .before .before .before .before .before .before .before .before .before .before .before .before .before .before .before .before .pre in
+    pass-placeable (pre .1 .pass) (pre .2) (bytes (c .before .before .before .before .before .before .before .before .before .before .before .before .before .before .before .before .before .before .before)) (pre .0) (c .before .before .before .before .before .before .before .before .before .before .before .before .before .before .before .before .before .before .before .if1 .left) (c .before .before .before .before .before .before .before .before .before .before .before .before .before .before .before .before .before .settle .ensures) (c .before .before .before .before .before .before .before .before .before .before .before .lay-checked .ensures)
 
 same-length-2 : tie.Need-same-length-2
 same-length-2 c = search needs
@@ -79,12 +61,11 @@ same-length-4 c = search needs
 
 returns-2 : tie.Need-returns-2
 returns-2 c =
-    let pre = c .before .before .before .before .before .before .before .before .before .before .before .before .before .before .before .before .before .before .before .before .before .before .before .before .before .before .before .before .before .before .before .before .before .before .before .before .before .pre in
-    let asked = c .before .before .before .before .before .before .before .before .before .before .before .before .before .before .before .before .before .before .before .before .before .before .before .before .before .before .before .before in
+    let pre = c .before .before .before .before .before .before .before .before .before .before .before .before .before .before .before .before .before .before .before .before .before .before .before .before .before .before .before .before .before .before .before .before .before .before .before .pre in
     let placed = c .before .before .before .before .before .before .place-on .ensures in
     record {
       leaves = λ rows lent g w.
-          pass-leaves g (asked .own-number .ensures) (bytes asked) (pre .0) (c .before .before .before .before .before .before .before .before .before .before .before .before .before .before .before .before .before .before .before .before .before .before .before .before .before .before .if1 .left) (c .before .before .before .before .before .before .before .before .before .before .before .before .before .before .before .before .before .before .before .before .before .before .before .before .settle .ensures) (c .before .before .before .before .before .before .before .before .before .before .before .before .before .before .before .before .before .before .lay-checked .ensures) lent w _ _ _ _ placed;
+          pass-leaves g (pre .2) (bytes (c .before .before .before .before .before .before .before .before .before .before .before .before .before .before .before .before .before .before .before .before .before .before .before .before .before .before)) (pre .0) (c .before .before .before .before .before .before .before .before .before .before .before .before .before .before .before .before .before .before .before .before .before .before .before .before .before .before .if1 .left) (c .before .before .before .before .before .before .before .before .before .before .before .before .before .before .before .before .before .before .before .before .before .before .before .before .settle .ensures) (c .before .before .before .before .before .before .before .before .before .before .before .before .before .before .before .before .before .before .lay-checked .ensures) lent w _ _ _ _ placed;
       recordable = placed .recordable;
     }
 
@@ -92,15 +73,12 @@ pub book-checked-spec : {M : Type 1} → statement M
 book-checked-spec =
     tie.close
     (tie.spec
-    slice-aggregate-own-number
-    own-number-requires
     restore-requires
     same-length
     returns
     settle-requires
     lay-checked-requires
     add-n
-    array-share-prefix-profile
     slice-aggregate-place-on
     place-on-requires
     same-length-2
