@@ -1,4 +1,5 @@
--- When a new stream fits at a start beside the standing ones, by the day sheet of those. Document 01, 'A day at the desk': "In each round reserves + loss(films open) ≤ D and held ≤ M, and no cab shows two films."
+-- When a new stream fits at a start beside the standing ones, by the day sheet of those. Document 01, 'A day at the desk': "In each round
+-- reserves + loss(films open) ≤ D and held ≤ M, and no cab shows two films."
 use mathlib.Core.Bool.{Bool, not, _&&_}
 use mathlib.Core.List.{List}
 use Prim.Native.Nat.{ℕ, _+_, _*_, _^_, _≤_, _<_}

@@ -1,5 +1,5 @@
--- The interface for C and Rust, of a day: what each function answers and leaves, as definitions over everything that it is lent, and the laws by
--- which a call over a lent list of records is the call over its first 256 rows.
+-- The interface for C and Rust, of a day: what each function answers and leaves, as definitions over everything that it is lent, and the
+-- laws by which a call over a lent list of records is the call over its first 256 rows.
 pub mod Records
 pub mod RecordLaws
 pub mod Reply

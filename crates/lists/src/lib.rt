@@ -1,4 +1,4 @@
-// Tests of whole lists of numbers: names that differ, cabs that are clear, numbers within a limit.
+// Tests of whole lists of numbers: names that differ, cabs that are clear, numbers within a limit; and lists taken by blocks.
 pub mod blocks;
 pub mod cabs;
 pub mod joined;
