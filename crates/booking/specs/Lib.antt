@@ -3,5 +3,3 @@ pub mod Contract
 pub mod Own
 pub mod Place
 pub mod Placed
-pub mod Placing
-pub mod CheckedLaws

@@ -4,11 +4,11 @@ use mathlib.Core.Bool.{Bool, true, false, not, _&&_}
 use mathlib.Core.List.{List, [], _∷_, _++_}
 use Prim.Native.Nat.{ℕ, _+_, _≤_}
 use native.Mathlib.Omega.{arith}
-use lib.ListN.{length, take}
+use lib.ListN.{take}
 use lib.Dec.{leb, ltb, eqb}
 use borrow.Author.Tests.{leb-true}
 use Rattle.laws.specs.Questions.{Question, refusal, orElse, orElse-first, Numbered, refusal-append, refusal-held}
-use Rattle.limits.specs.Bounds.{maxPrefetch, maxReserve, maxRounds, maxBookings}
+use Rattle.limits.specs.Bounds.{maxPrefetch, maxReserve, maxBookings}
 use Rattle.limits.specs.Refusals.{noFilm, prefetchBound, reserveBound, noSchedule, listFull, nameTaken, noCab, windowBound}
 use Rattle.films.specs.Questions.{verdict}
 use Rattle.films.specs.Catalogue.{catalogueOf}
@@ -18,10 +18,9 @@ use Rattle.model.specs.Questions.{hasName, recordQuestions, windowOpen, bookOwn
 use Rattle.model.specs.declared.Booking.{Booking}
 use Rattle.model.specs.declared.Request.{Request}
 use Rattle.model.specs.declared.Day.{Day}
-use Rattle.load.specs.Stream.{lengthOf, sendsOf, profileOf}
+use Rattle.load.specs.Stream.{sendsOf}
 use Rattle.load.specs.Streams.{streamOf}
 use Rattle.load.specs.declared.stream.Stream.{Stream}
-use Rattle.table.specs.Table.{Tabled}
 use Rattle.questions.specs.Given.{settingAt}
 use Rattle.questions.specs.Tied.{Tied, tied-rounds, exists-tied}
 use Rattle.questions.specs.Ties.{stream-tied}
@@ -49,10 +48,6 @@ placeHolds count places = ltb count maxBookings && ltb count places
 abbrev pub requestOf : List ℕ → Request → Stream
 requestOf f q = streamOf (catalogueOf f) (recordOf q 0)
 
--- rounds that a stream is open, at most
-abbrev pub maxLength : ℕ
-maxLength = maxPrefetch + maxRounds
-
 -- 18, then those above, 21 and 17
 unfoldable pub ownAsks : List ℕ → Day → List Booking → ℕ → Request → List Question
 ownAsks f day rows places q =
@@ -61,13 +56,6 @@ ownAsks f day rows places q =
     ++ (windowHolds day q (requestOf f q), windowBound)
     ∷ (placeHolds (day .count) places, listFull)
     ∷ []
-
--- the number of them by the table of the standing bookings; where it is 0 the front of `new` has what the request's stream holds
-pub record OwnNumber (f : List ℕ) (day : Day) (table : List ℕ) (places : ℕ) (q : Request) (y : Stream) (old : List ℕ) (r : ℕ) (new : List ℕ) : Type 0 where
-  pub number : (rows : List Booking) → length rows ≡ maxBookings → Tabled (catalogueOf f) (take (day .count) rows) table
-      → r ≡ refusal (ownAsks f day rows places q)
-  pub held : r ≡ 0 → take (lengthOf y) new ≡ profileOf f y
-  pub same : length new ≡ length old
 
 pub asks-numbered : (f : List ℕ) (y : Stream) → Numbered (streamAsks f y)
 unfolding streamAsks

@@ -21,7 +21,7 @@ use Rattle.load.specs.Basic.{Playable, EachOf}
 use Rattle.load.specs.declared.stream.Stream.{Stream}
 use Rattle.sheet.specs.Sheet.{Laid, Places}
 use Rattle.sheet.specs.LaidLaws.{total-most, worked-at, length-worked}
-use Rattle.fitting.specs.Fit.{queryOf, Window}
+use Rattle.search.specs.Fit.{queryOf, Window}
 
 -- ---- a film of an accepted file has a 16-bit number
 

@@ -28,27 +28,23 @@ use Rattle.model.specs.declared.Request.{Request}
 use Rattle.model.specs.declared.Day.{Day}
 use Rattle.model.specs.declared.Answer.the-variants.{Refused, Booked}
 use Rattle.load.specs.Stream.{noStream, lengthOf, profileOf}
+use Rattle.load.specs.Streams.{streamsOf}
 use Rattle.load.specs.Basic.{Playable, Within, EachOf}
 use Rattle.load.specs.declared.stream.Stream.{Stream}
-use Rattle.windows.specs.Memory.{Agrees}
-use Rattle.windows.specs.Packed.{lentOf, Settled}
-use Rattle.windows.specs.PackedLaws.{settled-length}
-use Rattle.windows.specs.declared.packed.Packed.{Packed}
 use Rattle.sheet.specs.Sheet.{Laid, Lays, Places, Raises, Raised}
 use Rattle.sheet.specs.LaidLaws.{length-worked, laid-raises, laid-raised}
-use Rattle.fitting.specs.Fit.{queryOf, startAt, fitsAt, Window}
-use Rattle.search.specs.Answers.{answerOf}
+use Rattle.search.specs.Fit.{queryOf, startAt, fitsAt, answerOf, Window}
 use Rattle.search.specs.declared.Found.{Found}
 use Rattle.search.specs.declared.Found.the-variants.{At, Nowhere}
 use Rattle.questions.specs.Given.{settingAt}
 use Rattle.questions.specs.Numbers.{roundsHold, dayHolds, limitsHold, sheetHolds, soundHolds, standingAsks}
 use Rattle.questions.specs.Standing.{Standing, standing-held, standing-numbered, standing-after}
 use Rattle.questions.specs.Tied.{Tied, AllTied, tied-rounds}
-use Rattle.questions.specs.ListSound.{StreamsOf, all-tied-taken, length-streams, sound-playable}
-use Rattle.questions.specs.SheetOf.{SheetOf, SheetKept, HeldKept, laid-sheet, sheet-laid, kept-agrees}
+use Rattle.questions.specs.ListSound.{all-tied-taken, length-streams, sound-playable}
+use Rattle.questions.specs.SheetOf.{SheetOf, laid-sheet}
 use Rattle.questions.specs.Start.{first-query}
 use Rattle.booking.specs.Contract.{Leaves, bookAsks}
-use Rattle.booking.specs.Own.{maxLength, ownAsks, own-same, requestOf, request-tied}
+use Rattle.booking.specs.Own.{requestOf, request-tied}
 use Rattle.booking.specs.Place.{film-small, laid-window}
 
 -- the code's questions are the model's
@@ -56,14 +52,6 @@ pub asks-same : (f : List ℕ) (day : Day) (rows : List Booking) (places : ℕ) 
     → bookQuestions (settingAt f day) (stateOf day rows places o r h) q ≡ bookAsks f day rows places q (length o) (length r) (length h)
 unfolding bookQuestions dayInRange roundsInRange limitsInRange sheetLong sound standingAsks dayHolds roundsHold limitsHold sheetHolds soundHolds
 asks-same f day rows places q o r h = refl
-
--- the number of booking's own questions is that of all of them
-pub own-decides : (f : List ℕ) (day : Day) (rows : List Booking) (places : ℕ) (q : Request) (o r h n : ℕ)
-    → refusal (standingAsks f day rows places o r h) ≡ 0 → n ≡ refusal (ownAsks f day rows places q)
-    → n ≡ refusal (bookAsks f day rows places q o r h)
-own-decides f day rows places q o r h n passed e =
-    let s = standing-held f day rows places o r h passed in
-    e ∙ ap refusal (sym (own-same f day (s .accepted) q rows places)) ∙ sym (standing-after f day rows places o r h _ passed)
 
 -- a number before 22: nothing changes
 pub leaves-refused : (f : List ℕ) (day : Day) (rows : List Booking) (places : ℕ) (q : Request) (o r h : List ℕ) (n : ℕ)
@@ -79,28 +67,6 @@ leaves-refused f day rows places q o r h n e k =
     go zero j = absurd (j refl)
     go (suc m) j = record { answer = refl; day = refl; rows = refl; opens = refl; reserves = refl; helds = refl }
 
--- the list by round is looked at no further than its length
-pub asks-lent : (f : List ℕ) (day : Day) (rows : List Booking) (places : ℕ) (q : Request) (o r : ℕ) (h lent : List ℕ) (p : Packed)
-    → Settled p (day .rounds) lent h
-    → refusal (bookAsks f day rows places q o r (length h)) ≡ refusal (bookAsks f day rows places q o r (length lent))
-asks-lent f day rows places q o r h lent p g =
-    ap (λ (m : ℕ). refusal (bookAsks f day rows places q o r m)) (settled-length p (day .rounds) lent h g)
-
--- nothing changes where that list was packed by the questions and the numbers lent are put back
-pub leaves-restored : (f : List ℕ) (day : Day) (rows : List Booking) (places : ℕ) (q : Request) (o r h lent l : List ℕ) (p : Packed) (n : ℕ)
-    → Settled p (day .rounds) lent h → l ≡ lentOf p h
-    → n ≡ refusal (bookAsks f day rows places q (length o) (length r) (length h)) → (n ≡ 0 → ⊥)
-    → Leaves (settingAt f day) (bookCall (settingAt f day) (stateOf day rows places o r lent) q) (Refused n) day rows o r l
-leaves-restored f day rows places q o r h lent l p n g k e z =
-    rw (k ∙ sym (g .lent))
-    (leaves-refused f day rows places q o r lent n (e ∙ asks-lent f day rows places q (length o) (length r) h lent p g) z)
-
--- nor where it was not written
-pub leaves-left : (f : List ℕ) (day : Day) (rows : List Booking) (places : ℕ) (q : Request) (o r h l : List ℕ) (n : ℕ) → l ≡ h
-    → n ≡ refusal (bookAsks f day rows places q (length o) (length r) (length h)) → (n ≡ 0 → ⊥)
-    → Leaves (settingAt f day) (bookCall (settingAt f day) (stateOf day rows places o r h) q) (Refused n) day rows o r l
-leaves-left f day rows places q o r h l n e k z = rw e (leaves-refused f day rows places q o r h n k z)
-
 -- one more of each
 all-tied-snoc : (S : Setting) (f : List ℕ) (bs : List Booking) (xs : List Stream) → AllTied S f bs xs → (b : Booking) (x : Stream) → Tied S f b x
     → AllTied S f (bs ++ (b ∷ [])) (xs ++ (x ∷ []))
@@ -108,22 +74,6 @@ all-tied-snoc S f [] [] t b x u = (u, tt)
 all-tied-snoc S f [] (z ∷ xs) t b x u = absurd t
 all-tied-snoc S f (c ∷ bs) [] t b x u = absurd t
 all-tied-snoc S f (c ∷ bs) (z ∷ xs) t b x u = (t .0, all-tied-snoc S f bs xs (t .1) b x u)
-
--- what a start s that was found leaves to be done, where o, r and h are the sheet of the standing bookings: it takes the request's
--- stream, the record has its place, and with both done the call is the model's
-pub record Started (f : List ℕ) (day : Day) (rows : List Booking) (places : ℕ) (q : Request) (o₀ r₀ h₀ o r h : List ℕ) (s : ℕ) : Type 0 where
-  pub raises : Raises (startAt s (requestOf f q)) (profileOf f (requestOf f q)) (day .rounds) o r h
-  pub count : day .count < maxBookings
-  pub film : q .film < 2 ^ 16
-  pub prefetch : q .prefetch ≤ maxPrefetch
-  pub reserve : q .reserve ≤ maxReserve
-  pub start : s ≤ maxDay
-  pub leaves : (o′ r′ h′ : List ℕ) → Raised (startAt s (requestOf f q)) (profileOf f (requestOf f q)) (day .rounds) o r h o′ r′ h′
-      → Leaves (settingAt f day) (bookCall (settingAt f day) (stateOf day rows places o₀ r₀ h₀) q) (Booked s)
-      (record { rounds = day .rounds; disk = day .disk; memory = day .memory; now = day .now; count = day .count + 1 })
-      (set rows (day .count) (recordOf q s)) o′ r′ h′
-  pub lengths : (o′ r′ h′ : List ℕ) → Raised (startAt s (requestOf f q)) (profileOf f (requestOf f q)) (day .rounds) o r h o′ r′ h′
-      → (length o′ ≡ length o₀) × (length r′ ≡ length r₀) × (length h′ ≡ length h₀)
 
 module _ (f : List ℕ) (day : Day) (rows : List Booking) (places : ℕ) (q : Request) (o₀ r₀ h₀ : List ℕ) (bytes : Bytes f)
     (full : length rows ≡ maxBookings)
@@ -154,15 +104,9 @@ module _ (f : List ℕ) (day : Day) (rows : List Booking) (places : ℕ) (q : Re
       asked S bs (day .count) places (day .now) q
       (rw (eq-eqb (verdict f) 0 (stands .accepted)) (sym (standing-after f day rows places (length o₀) (length r₀) (length h₀) _ held-before) ∙ passed))
 
-  -- the request's stream is no longer than any
-  pub short : lengthOf y ≤ maxLength
-  short =
-      let t = request-tied f day (stands .accepted) q in
-      omega (arith, asks .fair .prefetch, t .prefetch, t .stored .few)
-
   -- ---- the sheet of the standing bookings
 
-  module _ (xs : List Stream) (made : StreamsOf (catalogueOf f) (day .count) rows xs) where
+  module _ (xs : List Stream) (made : xs ≡ streamsOf (catalogueOf f) (day .count) rows) where
     there : day .count ≤ length rows
     there = omega (arith, full, stands .few)
 
@@ -178,14 +122,6 @@ module _ (f : List ℕ) (day : Day) (rows : List Booking) (places : ℕ) (q : Re
 
     pub lays : Lays f xs (day .count) T o₀ r₀ h₀
     lays = record { few = stands .few; streams = good .0; within = good .1; places = sheet-places }
-
-    -- what the bookings hold, their streams do
-    pub held-agrees : HeldKept S bs h₀ → Agrees f (take (day .count) xs) h₀ 0 T
-    held-agrees = kept-agrees S f bs (take (day .count) xs) tied h₀
-
-    -- a sheet that is theirs already is theirs by the streams
-    pub kept-laid : SheetKept S bs o₀ r₀ h₀ → Laid f (take (day .count) xs) T o₀ r₀ h₀ o₀ r₀ h₀
-    kept-laid = sheet-laid S f bs (take (day .count) xs) tied o₀ r₀ h₀ o₀ r₀ h₀
 
     -- ---- the search over it
 
@@ -228,7 +164,7 @@ module _ (f : List ℕ) (day : Day) (rows : List Booking) (places : ℕ) (q : Re
           laid-window f (take (day .count) xs) T o₀ r₀ h₀ o r h laid (omega (arith, count-taken, asks .few)) good-taken sheet-places (stands .rounds) y
           (profileOf f y) (day .disk) (day .memory) (q .last) last-within
 
-      pub sheet-of : SheetOf S bs o₀ r₀ h₀ o r h
+      sheet-of : SheetOf S bs o₀ r₀ h₀ o r h
       sheet-of = laid-sheet S f bs (take (day .count) xs) tied o₀ r₀ h₀ o r h laid
 
       ties : (s : ℕ) → Tied S f (recordOf q s) (startAt s y)
@@ -271,7 +207,7 @@ module _ (f : List ℕ) (day : Day) (rows : List Booking) (places : ℕ) (q : Re
         model-at : startOf S d q ≡ Fit.at s
         model-at = found-same ∙ answer-at s found at-s
 
-        in-window : (q .first ≤ s) × (s ≤ q .last)
+        pub in-window : (q .first ≤ s) × (s ≤ q .last)
         in-window = go found (answer-at s found at-s) (search-finds (fitsAt (queryOf y (profileOf f y) (take (day .count) xs) o r h (day .disk) (day .memory))) (q .first) (suc (q .last) - q .first))
           where
             go : (m : Fit.Found) → m ≡ Fit.at s → Finds (fitsAt (queryOf y (profileOf f y) (take (day .count) xs) o r h (day .disk) (day .memory))) (q .first) (suc (q .last) - q .first) m
@@ -292,40 +228,59 @@ module _ (f : List ℕ) (day : Day) (rows : List Booking) (places : ℕ) (q : Re
               stored = request-fair .stored;
             }
 
-        tied-snoc : AllTied S f (bs ++ (recordOf q s ∷ [])) (take (day .count) xs ++ (startAt s y ∷ []))
-        tied-snoc = all-tied-snoc S f bs (take (day .count) xs) tied (recordOf q s) (startAt s y) (ties s)
+        pub raises : Raises f (startAt s y) T o r h
+        raises =
+            laid-raises f (take (day .count) xs) (startAt s y) T o₀ r₀ h₀ o r h laid (omega (arith, count-taken, asks .few)) good-taken started
+            (omega (arith, last-within, in-window)) sheet-places
 
-        -- the booking is appended, and added to the sheet; each list is as long as it was
-        pub starts : Started f day rows places q o₀ r₀ h₀ o r h s
-        starts =
-            let lo = length-worked T _ o₀ o (laid .films) (stands .opens) in
-            let lr = length-worked T _ r₀ r (laid .reserved) (stands .reserves) in
-            let lh = length-worked T _ h₀ h (laid .held) (stands .helds) in
+        -- what `append` asks
+        pub record Appendable : Type 0 where
+          pub count : day .count < maxBookings
+          pub film : q .film < 2 ^ 16
+          pub prefetch : q .prefetch ≤ maxPrefetch
+          pub reserve : q .reserve ≤ maxReserve
+          pub start : s ≤ maxDay
+
+        pub appendable : Appendable
+        appendable =
             record {
-              raises =
-                  laid-raises f (take (day .count) xs) (startAt s y) T o₀ r₀ h₀ o r h laid (omega (arith, count-taken, asks .few)) good-taken started
-                  (omega (arith, last-within, in-window)) sheet-places;
               count = asks .few;
               film = film-small f bytes (stands .accepted) (q .film) (asks .fair .film);
               prefetch = asks .fair .prefetch;
               reserve = asks .fair .reserve;
               start = omega (arith, request-fair .bounded .ends, in-window);
-              leaves = λ o′ r′ h′ raised.
-                  let c = call-same (Fit.at s) model-at in
-                  let all = laid-sheet S f (bs ++ (recordOf q s ∷ [])) (take (day .count) xs ++ (startAt s y ∷ [])) tied-snoc o₀ r₀ h₀ o′ r′ h′
-                  (laid-raised f (take (day .count) xs) (startAt s y) T o₀ r₀ h₀ o r h laid o′ r′ h′ raised) in
-                  rw c
-                  (record {
-                    answer = refl;
-                    day = ap (λ (n : ℕ). record { rounds = day .rounds; disk = day .disk; memory = day .memory; now = day .now; count = n }) (add-one (day .count));
-                    rows = refl;
-                    opens = all .films;
-                    reserves = all .reserve-sums;
-                    helds = all .held-sums;
-                  });
-              lengths = λ o′ r′ h′ raised. (
-                length-worked T _ o o′ (raised .films) (omega (arith, stands .opens)) ∙ lo,
-                length-worked T _ r r′ (raised .reserved) (omega (arith, stands .reserves)) ∙ lr,
-                length-worked T _ h h′ (raised .held) (omega (arith, stands .helds)) ∙ lh,
-              );
             }
+
+        tied-snoc : AllTied S f (bs ++ (recordOf q s ∷ [])) (take (day .count) xs ++ (startAt s y ∷ []))
+        tied-snoc = all-tied-snoc S f bs (take (day .count) xs) tied (recordOf q s) (startAt s y) (ties s)
+
+        -- the booking is appended, and added to the sheet
+        pub leaves-at : (o′ r′ h′ : List ℕ) → Raised f (startAt s y) T o r h o′ r′ h′
+            → Leaves S (bookCall S d q) (Booked s)
+            (record { rounds = day .rounds; disk = day .disk; memory = day .memory; now = day .now; count = day .count + 1 })
+            (set rows (day .count) (recordOf q s)) o′ r′ h′
+        leaves-at o′ r′ h′ raised =
+            let c = call-same (Fit.at s) model-at in
+            let all = laid-sheet S f (bs ++ (recordOf q s ∷ [])) (take (day .count) xs ++ (startAt s y ∷ [])) tied-snoc o₀ r₀ h₀ o′ r′ h′
+            (laid-raised f (take (day .count) xs) (startAt s y) T o₀ r₀ h₀ o r h laid o′ r′ h′ raised) in
+            rw c
+            (record {
+              answer = refl;
+              day = ap (λ (n : ℕ). record { rounds = day .rounds; disk = day .disk; memory = day .memory; now = day .now; count = n }) (add-one (day .count));
+              rows = refl;
+              opens = all .films;
+              reserves = all .reserve-sums;
+              helds = all .held-sums;
+            })
+
+        -- each list is as long as it was
+        pub same-lengths : (o′ r′ h′ : List ℕ) → Raised f (startAt s y) T o r h o′ r′ h′
+            → (length o′ ≡ length o₀) × (length r′ ≡ length r₀) × (length h′ ≡ length h₀)
+        same-lengths o′ r′ h′ raised =
+            let lo = length-worked T _ o₀ o (laid .films) (stands .opens) in
+            let lr = length-worked T _ r₀ r (laid .reserved) (stands .reserves) in
+            let lh = length-worked T _ h₀ h (laid .held) (stands .helds) in (
+              length-worked T _ o o′ (raised .films) (omega (arith, stands .opens)) ∙ lo,
+              length-worked T _ r r′ (raised .reserved) (omega (arith, stands .reserves)) ∙ lr,
+              length-worked T _ h h′ (raised .held) (omega (arith, stands .helds)) ∙ lh,
+            )

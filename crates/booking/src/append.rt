@@ -8,10 +8,10 @@ ghost use Prim.Native.Nat.{_≤_, _<_, _^_};
 ghost use lib.ListN.{set};
 ghost use Rattle.limits.specs.Bounds.{maxBookings, maxDay, maxPrefetch, maxReserve};
 ghost use Rattle.model.specs.Day.{recordOf};
-ghost use Rattle.fitting.specs.Fit.{startAt};
+ghost use Rattle.search.specs.Fit.{startAt};
 
 // The record of a request at a start.
-pub fn record_of(q: Request, s: u64) -> Booking
+fn record_of(q: Request, s: u64) -> Booking
     requires { ⌜ (q .film < 2 ^ 16) × (q .prefetch ≤ maxPrefetch) × (q .reserve ≤ maxReserve) × (s ≤ maxDay) ⌝ }
     ensures { λ r. ⌜ r ≡ recordOf q s ⌝ }
 {

@@ -3,7 +3,6 @@ use films::lookup::lookup;
 use films::types::Catalogue;
 use films::types::Lookup;
 use limits::bounds::MAX_BOOKINGS;
-use limits::bounds::MAX_DAY;
 use limits::bounds::MAX_PREFETCH;
 use limits::bounds::MAX_RESERVE;
 use limits::refusals::LIST_FULL;
@@ -14,22 +13,21 @@ use limits::refusals::NO_SCHEDULE;
 use limits::refusals::PREFETCH;
 use limits::refusals::RESERVE;
 use limits::refusals::WINDOW;
+use load::names::has_name;
 use load::stream::Stream;
+use model::Booking;
 use model::Day;
 use model::Request;
-use table::sound::has_name;
 ghost use mathlib.Core.Path.{_≡_};
 ghost use Prim.Native.Nat.{_≤_};
-ghost use lib.ListN.{length, take};
 ghost use Rattle.limits.specs.Bounds.{maxBookings, maxDay, maxPrefetch, maxRounds};
 ghost use Rattle.laws.specs.Questions.{refusal};
 ghost use Rattle.films.specs.Questions.{verdict};
+ghost use Rattle.films.specs.Catalogue.{catalogueOf};
 ghost use Rattle.films.specs.Sizes.{Stored};
 ghost use Rattle.model.specs.Day.{recordOf};
-ghost use Rattle.load.specs.Stream.{lengthOf, profileOf};
 ghost use Rattle.load.specs.Streams.{streamOf};
-ghost use Rattle.table.specs.Columns.{tableWords};
-ghost use Rattle.booking.specs.Own.{maxLength, streamAsks, windowHolds, placeHolds, requestOf, OwnNumber};
+ghost use Rattle.booking.specs.Own.{streamAsks, windowHolds, placeHolds, ownAsks};
 
 // The stream of a request, from round 0 on.
 pub fn requested(c: Catalogue, q: Request) -> Stream
@@ -56,10 +54,10 @@ pub fn requested(c: Catalogue, q: Request) -> Stream
     }
 }
 
-// The number of 8, 9, 10, 20 and 12; 0 if none says no, and then the front of `profile` has what the stream holds in its rounds.
-fn stream_number(file: &[u8], y: Stream, profile: &mut [u64]) -> u32
-    requires { ⌜ Stored (now file) (y .at) (y .rounds) × (maxLength ≤ length (now profile)) ⌝ }
-    ensures { λ r. ⌜ (r ≡ refusal (streamAsks (now (file .entry)) y)) × (r ≡ 0 → take (lengthOf y) (now (profile .exit)) ≡ profileOf (now (file .entry)) y) × (length (now (profile .exit)) ≡ length (now (profile .entry))) ⌝ }
+// The number of 8, 9, 10, 20 and 12; 0 if none says no.
+fn stream_number(file: &[u8], y: Stream) -> u32
+    requires { ⌜ Stored (now file) (y .at) (y .rounds) ⌝ }
+    ensures { λ r. ⌜ r ≡ refusal (streamAsks (now (file .entry)) y) ⌝ }
 {
     if y.rounds < 1 {
         return NO_FILM;
@@ -73,7 +71,7 @@ fn stream_number(file: &[u8], y: Stream, profile: &mut [u64]) -> u32
     if y.cabs == 0 {
         return NO_CAB;
     }
-    if !profiles::write_profile(profile, file, y.at, y.rounds, y.prefetch, y.reserve) {
+    if !retrieval::exists(file, y.at, y.rounds, y.prefetch, y.reserve) {
         return NO_SCHEDULE;
     }
     0
@@ -106,24 +104,24 @@ fn place_holds(count: u64, places: u64) -> bool
     count < places
 }
 
-// The number of the first of booking's own questions but 22 that says no; 0 if none does, and then the front of `profile` has what the
-// request's stream y holds in its rounds. The file is accepted, and the table is that of the standing bookings.
+// The number of the first of booking's own questions but 22 that says no; 0 if none does. The file is accepted, and c is its
+// catalogue.
 pub fn own_number(
     file: &[u8],
+    c: Catalogue,
     day: Day,
-    table: &[u64],
+    rows: [Booking; MAX_BOOKINGS],
     places: u64,
     q: Request,
-    y: Stream,
-    profile: &mut [u64],
 ) -> u32
-    requires { ⌜ (y ≡ requestOf (now file) q) × (verdict (now file) ≡ 0) × (day .count ≤ maxBookings) × (day .rounds ≤ maxDay) × (tableWords ≤ length (now table)) × (maxLength ≤ length (now profile)) ⌝ }
-    ensures { λ r. ⌜ OwnNumber (now (file .entry)) day (now (table .entry)) places q y (now (profile .entry)) r (now (profile .exit)) ⌝ }
+    requires { ⌜ (c ≡ catalogueOf (now file)) × (verdict (now file) ≡ 0) × (day .count ≤ maxBookings) × (day .rounds ≤ maxDay) ⌝ }
+    ensures { λ r. ⌜ r ≡ refusal (ownAsks (now (file .entry)) day rows places q) ⌝ }
 {
-    if has_name(table, day.count as usize, q.name) {
+    if has_name(rows, day.count as usize, q.name) {
         return NAME_TAKEN;
     }
-    let number = stream_number(file, y, profile);
+    let y = requested(c, q);
+    let number = stream_number(file, y);
     if number != 0 {
         return number;
     }
@@ -134,31 +132,4 @@ pub fn own_number(
         return LIST_FULL;
     }
     0
-}
-
-// `own_number`, asked before the questions that come first: 0 where these are sure to say no, of a refused file, of more than 256 bookings
-// and of a day that is too long.
-pub fn early_number(
-    file: &[u8],
-    refused: u32,
-    day: Day,
-    table: &[u64],
-    places: u64,
-    q: Request,
-    y: Stream,
-    profile: &mut [u64],
-) -> u32
-    requires { ⌜ (refused ≡ verdict (now file)) × (y ≡ requestOf (now file) q) × (tableWords ≤ length (now table)) × (maxLength ≤ length (now profile)) ⌝ }
-    ensures { λ r. ⌜ (verdict (now (file .entry)) ≡ 0 → day .count ≤ maxBookings → day .rounds ≤ maxDay → OwnNumber (now (file .entry)) day (now (table .entry)) places q y (now (profile .entry)) r (now (profile .exit))) ⌝ }
-{
-    if refused != 0 {
-        return 0;
-    }
-    if (MAX_BOOKINGS as u64) < day.count {
-        return 0;
-    }
-    if MAX_DAY < day.rounds {
-        return 0;
-    }
-    own_number(file, day, table, places, q, y, profile)
 }

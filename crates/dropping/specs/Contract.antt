@@ -7,11 +7,7 @@ use Prim.Native.Nat.{ℕ}
 use Rattle.model.specs.Day.{Setting, State}
 use Rattle.model.specs.Calls.{dropCall}
 use Rattle.model.specs.Code.{dayOf}
-use Rattle.model.specs.declared.Booking.{Booking}
-use Rattle.model.specs.declared.Day.{Day}
-use Rattle.removal.specs.Removal.{left}
 use Rattle.dropping.specs.declared.DropOutcome.{DropOutcome}
-use Rattle.dropping.specs.declared.DroppedAt.{DroppedAt}
 
 -- the answer, the day, every record place and the sheet afterwards are those of the model's drop in the setting S on the
 -- state d
@@ -22,12 +18,3 @@ pub record Drops (S : Setting) (d : State) (name : ℕ) (r : DropOutcome) (opens
   pub opens : opens′ ≡ dropCall S d name .state .opens
   pub reserves : reserves′ ≡ dropCall S d name .state .reserves
   pub helds : helds′ ≡ dropCall S d name .state .helds
-
--- the day with another number of bookings
-abbrev pub counting : Day → ℕ → Day
-counting day n = record { rounds = day .rounds; disk = day .disk; memory = day .memory; now = day .now; count = n }
-
--- the same, once the record at the place is taken out of the records
-abbrev pub DropsAt : Setting → State → Day → List Booking → ℕ → DroppedAt → List ℕ → List ℕ → List ℕ → Type 0
-DropsAt S d day rows name r opens′ reserves′ helds′ =
-    Drops S d name (record { answer = r .answer; day = counting day (r .count); rows = left (r .place) (day .count) rows }) opens′ reserves′ helds′

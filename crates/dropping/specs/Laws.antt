@@ -4,13 +4,18 @@ use mathlib.Core.List.{List, _∷_, _++_}
 use Prim.Native.Nat.{ℕ, zero, suc, _-_, _≤_, _<_}
 use native.Mathlib.Omega.{arith}
 use lib.ListN.{length, take, drop}
+use lib.Seq.{length-take-le}
 use borrow.Author.Tests.{lt-ltb, le-ltb}
 use Rattle.laws.specs.Questions.{refusal, refusal-append, orElse, orElse-first}
 use Rattle.limits.specs.Refusals.{noName}
+use Rattle.films.specs.Catalogue.{catalogueOf}
+use Rattle.films.specs.declared.types.Catalogue.{Catalogue}
+use Rattle.loss.specs.Rising.{loss-rising}
 use Rattle.model.specs.Day.{Setting, State}
 use Rattle.model.specs.Questions.{dropOwn}
 use Rattle.model.specs.Calls.{standing, noBooking, without, roundsInRange, dayInRange, limitsInRange, sheetLong, sound, dropQuestions, dropCall}
 use Rattle.model.specs.Code.{stateOf}
+use Rattle.model.specs.SoundLaws.{says-sound, sound-without}
 use Rattle.model.specs.declared.Booking.{Booking}
 use Rattle.model.specs.declared.Day.{Day}
 use Rattle.model.specs.declared.Answer.the-variants.{Refused, Dropped}
@@ -19,8 +24,9 @@ use Rattle.questions.specs.Numbers.{roundsHold, dayHolds, limitsHold, sheetHold
 use Rattle.questions.specs.Standing.{Standing, standing-held, standing-numbered}
 use Rattle.questions.specs.SheetOf.{SheetOf}
 use Rattle.dropping.specs.Contract.{Drops}
-use Rattle.removal.specs.Removal.{closed, Position}
-use Rattle.removal.specs.RemovalLaws.{take-closed}
+use Rattle.dropping.specs.Removal.{closed, Position}
+use Rattle.dropping.specs.RemovalLaws.{take-closed}
+use Rattle.dropping.specs.Standing.{Stands}
 use Rattle.dropping.specs.declared.DropOutcome.{DropOutcome}
 
 module _ (f : List ℕ) (day : Day) (rows : List Booking) (places : ℕ) (opens reserves helds : List ℕ) (n : ℕ)
@@ -75,12 +81,28 @@ module _ (f : List ℕ) (day : Day) (rows : List Booking) (places : ℕ) (opens 
         inside : i < day .count
         inside = omega (arith, p .within)
 
-        pub number-none : refusal (dropQuestions S d name) ≡ 0
+        number-none : refusal (dropQuestions S d name) ≡ 0
         unfolding dropOwn
         number-none = own ∙ rw (p .found ∙ lt-ltb i (day .count) inside)
 
         rest-taken : take (day .count - 1) (closed i (day .count) rows) ≡ without name (standing d)
         rest-taken = take-closed i (day .count) rows inside room ∙ sym (p .rest inside)
+
+        -- the rest is a sound list
+        pub rest-stands : (c : Catalogue) (after : List Booking) → c ≡ catalogueOf f → after ≡ closed i (day .count) rows
+            → Stands f c day (take (day .count - 1) after) (day .count - 1) opens reserves helds
+        rest-stands c after e q =
+            let held = stands none in
+            let size = length-take-le (day .count) rows room in
+            let rest = sound-without S loss-rising name (standing d) (omega (arith, held .few)) (held .sound) in
+            record {
+              catalogue = e;
+              accepted = held .accepted;
+              rounds = held .rounds;
+              few = omega (arith, held .few);
+              sound = rw (q, rest-taken) (says-sound S (without name (standing d)) rest);
+              places = record { opens-places = held .opens; reserves-places = held .reserves; helds-places = held .helds };
+            }
 
         pub accepted-drops : (r : DropOutcome) (o v h : List ℕ) → r .answer ≡ Dropped
             → r .day ≡ record { rounds = day .rounds; disk = day .disk; memory = day .memory; now = day .now; count = day .count - 1 }

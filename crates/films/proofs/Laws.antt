@@ -1,5 +1,5 @@
 -- Turns of the loops over the entries and over the sizes. Assumes nothing.
-use Prim.Native.Nat.{ℕ, zero, suc, _+_, _*_, _-_, _/_, _%_, _<_, _≤_}
+use Prim.Native.Nat.{ℕ, zero, suc, _+_, _*_, _-_, _<_, _≤_}
 use mathlib.Core.Path.{_≡_, refl, sym, ap, _∙_}
 use mathlib.Core.Bool.{Bool, true, false, _&&_}
 use mathlib.Core.List.{List, [], _∷_, _++_}
@@ -10,11 +10,14 @@ use borrow.Author.Tests.{le-leb, lt-leb, eq-eqb, ne-eqb}
 use lib.ListN.{getD, set, replicate}
 use lib.Seq.{set-at, append-snoc}
 use lib.Dec.{leb, eqb, leb·zero}
-use lib.Bits.{bitOr, or-add-and, and-le-l, and-le-r, or-lt, or-zero-l, or-shr, or-mod}
+use lib.Bits.{bitOr, or-add-and, and-le-l, and-le-r}
+use Rattle.laws.specs.Tests.{all}
+use Rattle.laws.specs.Words.{Bytes}
 use Rattle.laws.specs.Questions.{Question, refusal, refusal-stands}
 use Rattle.limits.specs.Bounds.{maxFilms, maxSize}
 use Rattle.limits.specs.Refusals.{filmOrder, roundCount}
-use Rattle.films.specs.Sizes.{size}
+use Rattle.films.specs.Sizes.{size, sizes}
+use Rattle.films.specs.SizeLaws.{sizes-cut}
 use Rattle.films.specs.Span.{span, length-span, span-more}
 use Rattle.films.specs.Questions.{entryNumber, entryRounds, exceeds, fewRounds, entryQuestions, smallSizes}
 use Rattle.films.specs.Catalogue.{places, entryAnswer}
@@ -87,24 +90,41 @@ entry-passes s i k v h e n =
     let z : k - i ≡ suc (k - (i + 1)) = omega arith in
     rw (z, add-one i) (after (own s i) (entryQuestions s (suc i) (k - suc i)) (omega arith, (omega arith, tt)) (own-answer s i ∙ sym e ∙ n))
 
--- ---- the sizes joined
+-- ---- the sizes' fourth bytes
 
--- a join is within the bound exactly if both are
-or-small : (a b : ℕ) → leb (bitOr a b) maxSize ≡ leb a maxSize && leb b maxSize
-or-small a b = go (decLe a maxSize) (decLe b maxSize)
+-- a size is within the bound exactly if its fourth byte is 0
+small-byte : (s : List ℕ) (at : ℕ) → Bytes s → leb (size s at) maxSize ≡ eqb (getD s (at + 3) 0) 0
+small-byte s at b = go (decLe (getD s (at + 3) 0) 0)
   where
-    go : Dec (a ≤ maxSize) → Dec (b ≤ maxSize) → leb (bitOr a b) maxSize ≡ leb a maxSize && leb b maxSize
+    go : Dec (getD s (at + 3) 0 ≤ 0) → leb (size s at) maxSize ≡ eqb (getD s (at + 3) 0) 0
+    go (yes z) =
+        let l : size s at ≤ maxSize = omega (arith, b at, b (at + 1), b (at + 2)) in
+        let e : getD s (at + 3) 0 ≡ 0 = omega arith in
+        le-leb _ _ l ∙ sym (eq-eqb _ _ e)
+    go (no z) =
+        let l : maxSize < size s at = omega arith in
+        let e : getD s (at + 3) 0 ≡ 0 → ⊥ = λ q. omega arith in
+        lt-leb _ _ l ∙ sym (ne-eqb _ _ e)
+
+-- a join of bytes is 0 exactly if both are
+or-none : (a b : ℕ) → eqb (bitOr a b) 0 ≡ eqb a 0 && eqb b 0
+or-none a b = go (decLe a 0) (decLe b 0)
+  where
+    go : Dec (a ≤ 0) → Dec (b ≤ 0) → eqb (bitOr a b) 0 ≡ eqb a 0 && eqb b 0
     go (yes p) (yes q) =
-        let l : bitOr a b ≤ maxSize = omega (arith, or-lt 24 a b (omega arith) (omega arith)) in
-        rw (le-leb _ _ l, le-leb _ _ p, le-leb _ _ q)
+        let x : a ≡ 0 = omega arith in
+        let y : b ≡ 0 = omega arith in
+        let z : bitOr a b ≡ 0 = omega (arith, or-add-and a b) in
+        rw (eq-eqb _ _ z, eq-eqb _ _ x, eq-eqb _ _ y)
     go (yes p) (no q) =
-        let m : maxSize < b = omega arith in
-        let l : maxSize < bitOr a b = omega (arith, or-add-and a b, and-le-l a b) in
-        rw (lt-leb _ _ l, le-leb _ _ p, lt-leb _ _ m)
+        let y : b ≡ 0 → ⊥ = λ e. omega arith in
+        let x : a ≡ 0 = omega arith in
+        let z : bitOr a b ≡ 0 → ⊥ = λ e. omega (arith, or-add-and a b, and-le-l a b) in
+        rw (ne-eqb _ _ z, eq-eqb _ _ x, ne-eqb _ _ y)
     go (no p) q =
-        let m : maxSize < a = omega arith in
-        let l : maxSize < bitOr a b = omega (arith, or-add-and a b, and-le-r a b) in
-        rw (lt-leb _ _ l, lt-leb _ _ m)
+        let x : a ≡ 0 → ⊥ = λ e. omega arith in
+        let z : bitOr a b ≡ 0 → ⊥ = λ e. omega (arith, or-add-and a b, and-le-r a b) in
+        rw (ne-eqb _ _ z, ne-eqb _ _ x)
 
 and-true : (a : Bool) → a && true ≡ a
 and-true true = refl
@@ -114,123 +134,57 @@ and-assoc : (a b c : Bool) → (a && b) && c ≡ a && (b && c)
 and-assoc true b c = refl
 and-assoc false b c = refl
 
-pub small-none : (s : List ℕ) (from n : ℕ) → smallSizes s from n ≡ leb 0 maxSize && smallSizes s (from + 4 * 0) (n - 0)
+pub one-small : (s : List ℕ) (at : ℕ) → Bytes s → eqb (getD s (at + 3) 0) 0 ≡ smallSizes s at 1
+one-small s at b = sym (rw (small-byte s at b) (and-true (eqb (getD s (at + 3) 0) 0)))
+
+pub four-small : (s : List ℕ) (at : ℕ) → Bytes s
+    → eqb (bitOr (bitOr (bitOr (getD s (at + 3) 0) (getD s (at + 7) 0)) (getD s (at + 11) 0)) (getD s (at + 15) 0)) 0 ≡ smallSizes s at 4
+four-small s at b =
+    let e1 : at + 4 + 3 ≡ at + 7 = omega arith in
+    let e2 : at + 4 + 4 + 3 ≡ at + 11 = omega arith in
+    let e3 : at + 4 + 4 + 4 + 3 ≡ at + 15 = omega arith in
+    sym
+    (rw (
+      small-byte s at b,
+      small-byte s (at + 4) b,
+      small-byte s (at + 4 + 4) b,
+      small-byte s (at + 4 + 4 + 4) b,
+      e1,
+      e2,
+      e3,
+    )
+    (simp (or-none, and-assoc, and-true)))
+
+all-join : {A : Type 0} (f : A → Bool) (l m : List A) → all f (l ++ m) ≡ all f l && all f m
+all-join f [] m = refl
+all-join f (x ∷ l) m = ap (λ b. f x && b) (all-join f l m) ∙ sym (and-assoc (f x) (all f l) (all f m))
+
+-- k sizes in front of the others
+small-cut : (s : List ℕ) (from n i k : ℕ) → i + k ≤ n
+    → smallSizes s (from + 4 * i) (n - i) ≡ smallSizes s (from + 4 * i) k && smallSizes s (from + 4 * (i + k)) (n - (i + k))
+small-cut s from n i k h =
+    let e : n - i ≡ k + (n - (i + k)) = omega arith in
+    let f : from + 4 * i + 4 * k ≡ from + 4 * (i + k) = omega arith in
+    ap (smallSizes s (from + 4 * i)) e
+    ∙ ap (all (λ x. leb x maxSize)) (sizes-cut s (from + 4 * i) k (n - (i + k)))
+    ∙ all-join (λ x. leb x maxSize) (sizes s (from + 4 * i) k) (sizes s (from + 4 * i + 4 * k) (n - (i + k)))
+    ∙ ap (λ at. smallSizes s (from + 4 * i) k && smallSizes s at (n - (i + k))) f
+
+module _ (s : List ℕ) (from n i k : ℕ) (h : i + k ≤ n) where
+  pub small-next : smallSizes s (from + 4 * i) k ≡ true → smallSizes s (from + 4 * i) (n - i) ≡ smallSizes s (from + 4 * (i + k)) (n - (i + k))
+  small-next e = small-cut s from n i k h ∙ ap (λ b. b && smallSizes s (from + 4 * (i + k)) (n - (i + k))) e
+
+  pub small-stop : smallSizes s (from + 4 * i) k ≡ false → smallSizes s (from + 4 * i) (n - i) ≡ false
+  small-stop e = small-cut s from n i k h ∙ ap (λ b. b && smallSizes s (from + 4 * (i + k)) (n - (i + k))) e
+
+pub small-none : (s : List ℕ) (from n : ℕ) → smallSizes s from n ≡ smallSizes s (from + 4 * 0) (n - 0)
 small-none s from n =
     let a : from + 4 * 0 ≡ from = omega arith in
     let b : n - 0 ≡ n = omega arith in
     rw (a, b)
 
--- one size more among those joined
-pub small-next : (s : List ℕ) (from n i joined x : ℕ) → i < n → x ≡ size s (from + 4 * i)
-    → leb joined maxSize && smallSizes s (from + 4 * i) (n - i)
-    ≡ leb (bitOr joined x) maxSize && smallSizes s (from + 4 * (i + 1)) (n - (i + 1))
-small-next s from n i joined x h e =
-    let z : n - i ≡ suc (n - (i + 1)) = omega arith in
-    let f : from + 4 * i + 4 ≡ from + 4 * (i + 1) = omega arith in
-    let rest = smallSizes s (from + 4 * (i + 1)) (n - (i + 1)) in
-    ap (λ k. leb joined maxSize && smallSizes s (from + 4 * i) k) z
-    ∙ ap (λ at. leb joined maxSize && (leb (size s (from + 4 * i)) maxSize && smallSizes s at (n - (i + 1)))) f
-    ∙ ap (λ y. leb joined maxSize && (leb y maxSize && rest)) (sym e)
-    ∙ sym (and-assoc (leb joined maxSize) (leb x maxSize) rest)
-    ∙ ap (λ b. b && rest) (sym (or-small joined x))
-
-pub small-end : (s : List ℕ) (at n i joined : ℕ) → n ≤ i → leb joined maxSize && smallSizes s at (n - i) ≡ leb joined maxSize
-small-end s at n i joined h =
-    let z : n - i ≡ 0 = omega arith in
-    rw z (and-true (leb joined maxSize))
-
--- ---- the middles joined
-
--- the second byte of a word
-abbrev pub secondByte : ℕ → ℕ
-secondByte x = x / 256 % 256
-
--- that of a join is 0 exactly if both are
-or-second : (a b : ℕ) → eqb (secondByte (bitOr a b)) 0 ≡ eqb (secondByte a) 0 && eqb (secondByte b) 0
-or-second a b = rw (or-shr a b 8, or-mod (a / 256) (b / 256) 8) (go (secondByte a) (secondByte b))
-  where
-    go : (x y : ℕ) → eqb (bitOr x y) 0 ≡ eqb x 0 && eqb y 0
-    go zero y = rw (or-zero-l y)
-    go (suc x) y =
-        let l : bitOr (suc x) y ≡ 0 → ⊥ = λ e. omega (arith, or-add-and (suc x) y, and-le-r (suc x) y) in
-        let m : suc x ≡ 0 → ⊥ = λ e. omega arith in
-        rw (ne-eqb _ _ l, ne-eqb _ _ m)
-
--- the word from the middle of a size on tells whether it is within the bound
-middle-small : (s : List ℕ) (at x : ℕ) → ((k : ℕ) → getD s k 0 < 256) → x ≡ size s (at + 2) → leb (size s at) maxSize ≡ eqb (secondByte x) 0
-middle-small s at x b e = go (decLe (size s at) maxSize)
-  where
-    top : secondByte x ≡ getD s (at + 3) 0
-    top = let f : at + 2 + 1 ≡ at + 3 = omega arith in omega (arith, b (at + 2), b (at + 3), rw f at e)
-
-    go : Dec (size s at ≤ maxSize) → leb (size s at) maxSize ≡ eqb (secondByte x) 0
-    go (yes p) = let z : secondByte x ≡ 0 = omega (arith, top) in rw (le-leb _ _ p, eq-eqb _ _ z)
-    go (no p) =
-        let z : secondByte x ≡ 0 → ⊥ = λ q. omega (arith, top, b at, b (at + 1), b (at + 2)) in
-        let m : maxSize < size s at = omega arith in
-        rw (lt-leb _ _ m, ne-eqb _ _ z)
-
-pub middle-none : (s : List ℕ) (from n : ℕ) → smallSizes s from n ≡ eqb (secondByte 0) 0 && smallSizes s (from + 4 * 0) (n - 0)
-middle-none s from n =
-    let a : from + 4 * 0 ≡ from = omega arith in
-    let b : n - 0 ≡ n = omega arith in
-    rw (a, b)
-
--- one middle more among those joined
-pub middle-next : (s : List ℕ) (from n i joined x : ℕ) → ((k : ℕ) → getD s k 0 < 256) → i < n → x ≡ size s (from + 2 + 4 * i)
-    → eqb (secondByte joined) 0 && smallSizes s (from + 4 * i) (n - i)
-    ≡ eqb (secondByte (bitOr joined x)) 0 && smallSizes s (from + 4 * (i + 1)) (n - (i + 1))
-middle-next s from n i joined x b h e =
-    let z : n - i ≡ suc (n - (i + 1)) = omega arith in
-    let f : from + 4 * i + 4 ≡ from + 4 * (i + 1) = omega arith in
-    let g : from + 2 + 4 * i ≡ from + 4 * i + 2 = omega arith in
-    let own = middle-small s (from + 4 * i) x b (rw g at e) in
-    let rest = smallSizes s (from + 4 * (i + 1)) (n - (i + 1)) in
-    let t = eqb (secondByte joined) 0 in
-    ap (λ k. t && smallSizes s (from + 4 * i) k) z
-    ∙ ap (λ at. t && (leb (size s (from + 4 * i)) maxSize && smallSizes s at (n - (i + 1)))) f
-    ∙ ap (λ y. t && (y && rest)) own
-    ∙ sym (and-assoc t (eqb (secondByte x) 0) rest)
-    ∙ ap (λ c. c && rest) (sym (or-second joined x))
-
-pub middle-end : (s : List ℕ) (at n i joined : ℕ) → n ≤ i → eqb (secondByte joined) 0 && smallSizes s at (n - i) ≡ eqb (secondByte joined) 0
-middle-end s at n i joined h =
-    let z : n - i ≡ 0 = omega arith in
-    rw z (and-true (eqb (secondByte joined) 0))
-
--- ---- some sizes and those after them
-
-small-parts : (s : List ℕ) (from a b : ℕ) → smallSizes s from (a + b) ≡ smallSizes s from a && smallSizes s (from + 4 * a) b
-small-parts s from zero b =
-    let e : from + 4 * 0 ≡ from = omega arith in
-    let z : 0 + b ≡ b = omega arith in
-    rw (e, z)
-small-parts s from (suc a) b =
-    let e : from + 4 + 4 * a ≡ from + 4 * suc a = omega arith in
-    let z : suc a + b ≡ suc (a + b) = omega arith in
-    rw z
-    (ap (λ t. leb (size s from) maxSize && t) (small-parts s (from + 4) a b)
-    ∙ sym (and-assoc (leb (size s from) maxSize) (smallSizes s (from + 4) a) (smallSizes s (from + 4 + 4 * a) b))
-    ∙ ap (λ at. (leb (size s from) maxSize && smallSizes s (from + 4) a) && smallSizes s at b) e)
-
--- the next k of the n - i left, and those after them
-pub small-front : (s : List ℕ) (from n i k : ℕ) → k ≤ n - i
-    → smallSizes s (from + 4 * i) (n - i) ≡ smallSizes s (from + 4 * i) k && smallSizes s (from + 4 * (i + k)) (n - (i + k))
-small-front s from n i k h =
-    let z : n - i ≡ k + (n - (i + k)) = omega arith in
-    let f : from + 4 * i + 4 * k ≡ from + 4 * (i + k) = omega arith in
-    ap (smallSizes s (from + 4 * i)) z ∙ small-parts s (from + 4 * i) k (n - (i + k))
-    ∙ ap (λ at. smallSizes s (from + 4 * i) k && smallSizes s at (n - (i + k))) f
-
--- the first k of n, those after them but for the last, and the last
-pub small-split : (s : List ℕ) (from n k : ℕ) → k < n
-    → smallSizes s from n ≡ smallSizes s from k && (smallSizes s (from + 4 * k) (n - 1 - k) && smallSizes s (from + 4 * (n - 1)) 1)
-small-split s from n k h =
-    let z : n ≡ k + (n - 1 - k + 1) = omega arith in
-    let f : from + 4 * k + 4 * (n - 1 - k) ≡ from + 4 * (n - 1) = omega arith in
-    ap (smallSizes s from) z ∙ small-parts s from k (n - 1 - k + 1)
-    ∙ ap (λ t. smallSizes s from k && t)
-    (small-parts s (from + 4 * k) (n - 1 - k) 1 ∙ ap (λ at. smallSizes s (from + 4 * k) (n - 1 - k) && smallSizes s at 1) f)
+pub small-end : (s : List ℕ) (at n i : ℕ) → n ≤ i → smallSizes s at (n - i) ≡ true
+small-end s at n i h = let z : n - i ≡ 0 = omega arith in rw z
 
 -- ---- the places of a catalogue
 

@@ -6,7 +6,6 @@ pub mod Questions
 pub mod Decode
 pub mod Catalogue
 pub mod Lookup
-pub mod Ordered
 pub mod SizeLaws
 pub mod Accepted
 pub mod FilmLaws

@@ -6,81 +6,56 @@ ghost use Rattle.laws.specs.Questions.{refusal};
 ghost use Rattle.limits.specs.Bounds.{maxFilms, maxRounds};
 ghost use Rattle.films.specs.Questions.{filmsIn, roundsBefore, smallSizes, sizeQuestions};
 use crate::words::size_at;
-use crate::words::word_at;
-use limits::bounds::MAX_SIZE;
 use limits::refusals::SIZE_BOUND;
 use limits::refusals::SIZE_COUNT;
 use limits::refusals::TRAILING;
 use limits::refusals::TRUNCATED;
 
-// sizes that are joined as they stand
-const FEW: usize = 8;
+// Is a size within the bound? It exceeds it exactly if its fourth byte is not 0.
+fn one_small(file: &[u8], at: usize) -> bool
+    requires { ⌜ at + 4 ≤ length (now file) ⌝ }
+    ensures { λ r. ⌜ r ≡ smallSizes (now (file .entry)) at 1 ⌝ }
+{
+    file[at + 3] == 0
+}
 
-// sizes of a block
-const BLOCK: usize = 64;
+// Are four sizes?
+fn four_small(file: &[u8], at: usize) -> bool
+    requires { ⌜ at + 16 ≤ length (now file) ⌝ }
+    ensures { λ r. ⌜ r ≡ smallSizes (now (file .entry)) at 4 ⌝ }
+{
+    let high = file[at + 3] | file[at + 7] | file[at + 11] | file[at + 15];
+    high == 0
+}
 
-// Are n sizes within the bound? Each is exactly if their join is, and a loop without a test becomes vector code.
-fn join_small(file: &[u8], from: usize, n: usize) -> bool
+// Are n sizes?
+fn few_small(file: &[u8], from: usize, n: usize) -> bool
     requires { ⌜ from + 4 * n ≤ length (now file) ⌝ }
     ensures { λ r. ⌜ r ≡ smallSizes (now (file .entry)) from n ⌝ }
 {
-    let mut joined: u32 = 0;
     let mut i = 0;
     while i < n {
-        joined = joined | word_at(file, from + 4 * i);
-        i += 1;
-    }
-    joined <= MAX_SIZE as u32
-}
-
-// `join_small` with words that begin in the middle of a size: of each word the second byte is the top byte of the size, which is
-// within the bound exactly if that byte is 0. After the last size there are two bytes more.
-fn middles_small(file: &[u8], from: usize, n: usize) -> bool
-    requires { ⌜ from + 4 * n + 2 ≤ length (now file) ⌝ }
-    ensures { λ r. ⌜ r ≡ smallSizes (now (file .entry)) from n ⌝ }
-{
-    let mut joined: u32 = 0;
-    let mut i = 0;
-    while i < n {
-        joined = joined | word_at(file, from + 2 + 4 * i);
-        i += 1;
-    }
-    joined / 256 % 256 == 0
-}
-
-// `middles_small` by blocks: a block's loop has so many turns that the compiler writes them out one after the other.
-fn blocks_small(file: &[u8], from: usize, n: usize) -> bool
-    requires { ⌜ from + 4 * n + 2 ≤ length (now file) ⌝ }
-    ensures { λ r. ⌜ r ≡ smallSizes (now (file .entry)) from n ⌝ }
-{
-    let mut i = 0;
-    while BLOCK <= n - i {
-        if !middles_small(file, from + 4 * i, BLOCK) {
+        if !one_small(file, from + 4 * i) {
             return false;
         }
-        i += BLOCK;
+        i += 1;
     }
-    middles_small(file, from + 4 * i, n - i)
+    true
 }
 
-// Are n sizes within the bound? Sizes begin two bytes past a multiple of 4. From a size on whose middle is at a multiple of 16 up to
-// the last but one, middles are joined: 16 bytes read there lie in one line of the cache, wherever a file begins at a multiple of 16.
+// Are n sizes, of which there may be many? Four a turn, which halves the time.
 fn small(file: &[u8], from: usize, n: usize) -> bool
     requires { ⌜ from + 4 * n ≤ length (now file) ⌝ }
     ensures { λ r. ⌜ r ≡ smallSizes (now (file .entry)) from n ⌝ }
 {
-    if n < FEW {
-        return join_small(file, from, n);
+    let mut i = 0;
+    while i + 4 <= n {
+        if !four_small(file, from + 4 * i) {
+            return false;
+        }
+        i += 4;
     }
-    let first = 3 - (from + 1) % 16 / 4;
-    let last = n - 1;
-    if !join_small(file, from, first) {
-        return false;
-    }
-    if !blocks_small(file, from + 4 * first, last - first) {
-        return false;
-    }
-    join_small(file, from + 4 * last, 1)
+    few_small(file, from + 4 * i, n - i)
 }
 
 // The questions after the entries, which number `count` and have `total` rounds.

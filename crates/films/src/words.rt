@@ -11,10 +11,10 @@ fn wide16(x: u8) -> u16
     x as u16
 }
 
-fn wide32(x: u8) -> u32
+fn wide64(x: u8) -> u64
     ensures { λ r. ⌜ (r ≡ x) × (r < 256) ⌝ }
 {
-    x as u32
+    x as u64
 }
 
 // The 16 bits at an offset.
@@ -25,21 +25,13 @@ pub(crate) fn half_at(file: &[u8], at: usize) -> u16
     wide16(file[at]) + 256 * wide16(file[at + 1])
 }
 
-// The 32 bits at an offset.
-pub fn word_at(file: &[u8], at: usize) -> u32
-    requires { ⌜ at + 4 ≤ length (now file) ⌝ }
-    ensures { λ r. ⌜ r ≡ size (now (file .entry)) at ⌝ }
-{
-    wide32(file[at])
-        + 256 * wide32(file[at + 1])
-        + 65536 * wide32(file[at + 2])
-        + 16777216 * wide32(file[at + 3])
-}
-
 // The size at an offset: 32 bits.
 pub fn size_at(file: &[u8], at: usize) -> u64
     requires { ⌜ at + 4 ≤ length (now file) ⌝ }
     ensures { λ r. ⌜ r ≡ size (now (file .entry)) at ⌝ }
 {
-    word_at(file, at) as u64
+    wide64(file[at])
+        + 256 * wide64(file[at + 1])
+        + 65536 * wide64(file[at + 2])
+        + 16777216 * wide64(file[at + 3])
 }

@@ -1,46 +1,31 @@
-// The program: films.bin, then the commands of standard input, answered on standard output. What is answered is written before more
-// input is waited for.
+// The program: films.bin, then the commands of standard input, each answered at once on standard output.
 use console::OUTPUT_BYTES;
 use console::Session;
-use films::catalogue::catalogue;
-use films::types::Catalogue;
-use input::LINE_BYTES;
+use console::serve::serve_end;
+use console::serve::serve_line;
+use films::catalogue::verdict;
 use io::write_all;
 use libc::STDIN_FILENO;
 use libc::STDOUT_FILENO;
 use limits::bounds::HALL_FILE;
 use limits::bounds::HALL_ROUNDS;
 use limits::refusals::FILE_SIZE;
+use lines::Splitter;
 use model::Answer;
-use serving::serve_bytes;
-use serving::serve_end;
 use text::MAX_TEXT;
 use text::Written;
 use text::write_answer;
 ghost use Prim.Native.Nat.{_≤_};
-ghost use mathlib.Core.Path.{_≡_};
 ghost use lib.ListN.{length};
 ghost use Rattle.io.specs.Counts.{Counts};
-ghost use Rattle.films.specs.Questions.{verdict};
-ghost use Rattle.films.specs.Catalogue.{catalogueOf};
-ghost use Rattle.text.specs.Digits.{outputBytes};
-ghost use Rattle.console.specs.Contract.{withSheet};
-ghost use Rattle.serving.specs.Contract.{Runs};
 
 // bytes of the film file's buffer: one more than the program takes, so that it sees a file that is too long
 const FILE_BUFFER: usize = HALL_FILE + 1;
 
-// bytes of the input that are read at once, at most
-const INPUT_BYTES: usize = 65536;
-
-// bytes of the buffer that collects the answers: some times the longest
-const TEXT_BYTES: usize = 8 * OUTPUT_BYTES;
-
-// What stands between two reads: the session, how many bytes are kept of the line that is being read, and whether the input may have
-// more.
+// What stands between two reads: the line that is being read, the session, and whether the input may have more.
 struct Hall {
+    splitter: Splitter,
     session: Session,
-    held: usize,
     more: bool,
 }
 
@@ -104,45 +89,39 @@ fn read_films(bytes: &mut [u8]) -> usize
     front(bytes, n)
 }
 
-// Takes bytes of the input, and prints the answers of the lines that they end.
+// Takes bytes of the input, and prints the answer of each line that they end.
 fn take_bytes(
     file: &[u8],
-    c: Catalogue,
     hall: Hall,
     bytes: &[u8],
-    line: &mut [u8],
     opens: &mut [u64],
     reserves: &mut [u64],
     helds: &mut [u64],
     out: &mut [u8],
-) -> Hall
-    requires { ⌜ (outputBytes ≤ length (now out)) × Runs (now file) c (withSheet (hall .session) (now opens) (now reserves) (now helds)) (now line) (hall .held) ⌝ }
-    ensures { λ r. ⌜ Runs (now (file .entry)) c (withSheet (r .session) (now (opens .exit)) (now (reserves .exit)) (now (helds .exit))) (now (line .exit)) (r .held) ⌝ }
-{
+) -> Hall {
+    let mut splitter = hall.splitter;
     let mut session = hall.session;
-    let mut held = hall.held;
     let mut at = 0;
     while at < bytes.len() {
-        let served = serve_bytes(
+        let served = serve_line(
             file,
-            c,
             session,
-            line,
-            held,
-            &bytes[at..],
+            splitter,
+            bytes,
+            at,
             opens,
             reserves,
             helds,
             out,
         );
         print(out, served.length);
+        splitter = served.splitter;
         session = served.session;
-        held = served.held;
-        at += served.next;
+        at = served.next;
     }
     Hall {
+        splitter,
         session,
-        held,
         more: true,
     }
 }
@@ -150,18 +129,13 @@ fn take_bytes(
 // Reads what there is of the input, and answers its lines.
 fn read_some(
     file: &[u8],
-    c: Catalogue,
     hall: Hall,
-    line: &mut [u8],
     opens: &mut [u64],
     reserves: &mut [u64],
     helds: &mut [u64],
     out: &mut [u8],
-) -> Hall
-    requires { ⌜ (outputBytes ≤ length (now out)) × Runs (now file) c (withSheet (hall .session) (now opens) (now reserves) (now helds)) (now line) (hall .held) ⌝ }
-    ensures { λ r. ⌜ Runs (now (file .entry)) c (withSheet (r .session) (now (opens .exit)) (now (reserves .exit)) (now (helds .exit))) (now (line .exit)) (r .held) ⌝ }
-{
-    let mut input = [0u8; INPUT_BYTES];
+) -> Hall {
+    let mut input = io::buffer();
     let got = libc::read(STDIN_FILENO, &mut input);
     if got <= 0 {
         let mut last = hall;
@@ -169,86 +143,47 @@ fn read_some(
         return last;
     }
     let n = io::count(got, &input);
-    take_bytes(
-        file,
-        c,
-        hall,
-        &input[..n],
-        line,
-        opens,
-        reserves,
-        helds,
-        out,
-    )
+    take_bytes(file, hall, &input[..n], opens, reserves, helds, out)
 }
 
 // Reads and answers until the input ends. Every proved loop has to end, and nothing says that the input does: so this one counts
 // down its turns, each of which reads at least a byte, from 2^64 - 1, which no run uses up.
 fn read_all(
     file: &[u8],
-    c: Catalogue,
-    hall: Hall,
-    line: &mut [u8],
     opens: &mut [u64],
     reserves: &mut [u64],
     helds: &mut [u64],
     out: &mut [u8],
-) -> Hall
-    requires { ⌜ (outputBytes ≤ length (now out)) × Runs (now file) c (withSheet (hall .session) (now opens) (now reserves) (now helds)) (now line) (hall .held) ⌝ }
-    ensures { λ r. ⌜ Runs (now (file .entry)) c (withSheet (r .session) (now (opens .exit)) (now (reserves .exit)) (now (helds .exit))) (now (line .exit)) (r .held) ⌝ }
-{
-    let mut next = hall;
+) -> Hall {
+    let mut hall = Hall {
+        splitter: lines::start(),
+        session: console::start(),
+        more: true,
+    };
     let mut turns = u64::MAX;
-    while turns > 0 && next.more {
-        next = read_some(file, c, next, line, opens, reserves, helds, out);
+    while turns > 0 && hall.more {
+        hall = read_some(file, hall, opens, reserves, helds, out);
         turns -= 1;
     }
-    next
+    hall
 }
 
 // Answers every line of the input. The end of the input ends a line too.
-fn serve(
-    file: &[u8],
-    c: Catalogue,
-    hall: Hall,
-    line: &mut [u8],
-    opens: &mut [u64],
-    reserves: &mut [u64],
-    helds: &mut [u64],
-    out: &mut [u8],
-)
-    requires { ⌜ (outputBytes ≤ length (now out)) × Runs (now file) c (withSheet (hall .session) (now opens) (now reserves) (now helds)) (now line) (hall .held) ⌝ }
-{
-    let last = read_all(file, c, hall, line, opens, reserves, helds, out);
-    let session = last.session;
-    let length = serve_end(file, session, line, last.held, opens, reserves, helds, out);
-    print(out, length);
+fn serve(file: &[u8], opens: &mut [u64], reserves: &mut [u64], helds: &mut [u64], out: &mut [u8]) {
+    let hall = read_all(file, opens, reserves, helds, out);
+    let splitter = hall.splitter;
+    let session = hall.session;
+    let stepped = serve_end(file, session, splitter, opens, reserves, helds, out);
+    print(out, stepped.length);
 }
 
-// Serves a session with this film file, which is accepted and has the catalogue c. The sheet is the program's.
-fn run(file: &[u8], c: Catalogue)
-    requires { ⌜ (c ≡ catalogueOf (now file)) × (verdict (now file) ≡ 0) ⌝ }
-{
-    let mut line = [0u8; LINE_BYTES];
+// Serves a session with this film file, whose sheet is the program's.
+fn run(file: &[u8]) {
     let mut opens = [0u64; HALL_ROUNDS];
     let mut reserves = [0u64; HALL_ROUNDS];
     let mut helds = [0u64; HALL_ROUNDS];
-    let mut out = [0u8; TEXT_BYTES];
-    let hall = Hall {
-        session: console::start(),
-        held: 0,
-        more: true,
-    };
-    serve(
-        file,
-        c,
-        hall,
-        &mut line,
-        &mut opens,
-        &mut reserves,
-        &mut helds,
-        &mut out,
-    );
+    let mut out = [0u8; OUTPUT_BYTES];
+    serve(file, &mut opens, &mut reserves, &mut helds, &mut out);
 }
 
 fn main() {
@@ -258,11 +193,10 @@ fn main() {
         refuse(FILE_SIZE);
         return;
     }
-    let c = catalogue(&bytes[..n]);
-    let number = c.verdict;
+    let number = verdict(&bytes[..n]);
     if number != 0 {
         refuse(number);
         return;
     }
-    run(&bytes[..n], c);
+    run(&bytes[..n]);
 }

@@ -19,12 +19,12 @@ use Rattle.model.specs.declared.Booking.{Booking}
 use Rattle.model.specs.declared.Day.{Day}
 use Rattle.opening.specs.Contract as opening
 use Rattle.questions.specs.Given.{settingAt}
-use Rattle.journal.specs.Journal.{entries}
+use Rattle.replay.specs.Journal.{entries}
 use Rattle.replay.specs.PlainRun.{callsOf, entriesDone}
 use Rattle.replay.specs.Contract as replay
 use Rattle.replay.specs.Contract.{Result, lentTo, result, resultBy}
 use Rattle.replay.specs.declared.Replayed as run
-use Rattle.journal.specs.declared.Entry.{Entry}
+use Rattle.replay.specs.declared.journal.Entry.{Entry}
 use Rattle.interface.specs.Records.{loaded, stored}
 use Rattle.interface.specs.RecordLaws.{stored-front, stored-same}
 use Rattle.interface.specs.ReplayCall.{told, ReplaysOver}

@@ -1,15 +1,15 @@
 // The functions for C and Rust that no list of records is lent to.
-use film_interface::film_calls::Figures;
-use film_interface::film_calls::Film;
-use film_interface::film_calls::Size;
-use film_interface::film_calls::film_at;
-use film_interface::film_calls::size_at;
-use film_interface::film_calls::summary_of;
-use film_interface::plan_calls::Reserve;
-use film_interface::plan_calls::reserve_for;
-use film_interface::plan_calls::write_schedule;
 use films::catalogue::verdict;
 use interface::desk_calls::open_day;
+use interface::film_calls::Figures;
+use interface::film_calls::Film;
+use interface::film_calls::Size;
+use interface::film_calls::film_at;
+use interface::film_calls::size_at;
+use interface::film_calls::summary_of;
+use interface::plan_calls::Reserve;
+use interface::plan_calls::reserve_for;
+use interface::plan_calls::write_schedule;
 use interface::reply::Reply;
 use model::Day;
 ghost use mathlib.Core.Path.{_≡_};
@@ -28,8 +28,8 @@ ghost use Rattle.loss.specs.Loss.{lossAt};
 ghost use Rattle.model.specs.Code.{settingOf, stateOf};
 ghost use Rattle.model.specs.declared.Booking.{Booking};
 ghost use Rattle.opening.specs.Contract.{asked};
-ghost use Rattle.film_interface.specs.FilmCalls.{filmOf, entryOf, figuresOf, sizeOf};
-ghost use Rattle.film_interface.specs.PlanCalls.{reserveOf};
+ghost use Rattle.interface.specs.FilmCalls.{filmOf, entryOf, figuresOf, sizeOf};
+ghost use Rattle.interface.specs.PlanCalls.{reserveOf};
 ghost use Rattle.interface.specs.DeskCalls.{Opens};
 
 // 0, or the number of the first question, 1 to 7, that the file says no to.

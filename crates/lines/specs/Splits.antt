@@ -22,19 +22,19 @@ use Rattle.lines.specs.declared.Splitter.{Splitter}
 -- ---- Lines
 
 -- a byte inside a line
-abbrev pub inside : ℕ → Bool
+abbrev inside : ℕ → Bool
 inside b = not (eqb b lineEnd)
 
-pub inside-first : (b : ℕ) (u : List ℕ) → all inside (b ∷ u) ≡ true → eqb b lineEnd ≡ false
+inside-first : (b : ℕ) (u : List ℕ) → all inside (b ∷ u) ≡ true → eqb b lineEnd ≡ false
 inside-first b u h = not-true _ (left (inside b) (all inside u) h)
 
 -- a line that byte 10 ends
-pub line-end : (u l : List ℕ) (b : ℕ) → all inside u ≡ true → eqb b lineEnd ≡ true → lines (u ++ b ∷ l) ≡ u ∷ lines l
+line-end : (u l : List ℕ) (b : ℕ) → all inside u ≡ true → eqb b lineEnd ≡ true → lines (u ++ b ∷ l) ≡ u ∷ lines l
 line-end [] l b h e = rw e
 line-end (a ∷ u) l b h e = rw (inside-first a u h, line-end u l b (right (inside a) h) e)
 
 -- a line that the end of input ends
-pub line-last : (a : ℕ) (u : List ℕ) → all inside (a ∷ u) ≡ true → lines (a ∷ u) ≡ (a ∷ u) ∷ []
+line-last : (a : ℕ) (u : List ℕ) → all inside (a ∷ u) ≡ true → lines (a ∷ u) ≡ (a ∷ u) ∷ []
 line-last a [] h = rw (inside-first a [] h)
 line-last a (b ∷ u) h = rw (inside-first a (b ∷ u) h, line-last b u (right (inside a) h))
 

@@ -1,16 +1,17 @@
 -- Laws of a stream's rounds. Assumes nothing.
-use mathlib.Core.Path.{_≡_, sym, _∙_}
-use mathlib.Core.Bool.{Bool, true, false, cond}
-use mathlib.Core.List.{List, [], _∷_, _++_}
-use Prim.Native.Nat.{ℕ, _+_, _-_, _≤_, _<_}
-use native.Mathlib.Numerals.{add-one}
+use mathlib.Core.Path.{_≡_, refl, sym, _∙_}
+use mathlib.Core.Bool.{Bool, true, false, cond, not}
+use mathlib.Core.List.{List}
+use Prim.Native.Nat.{ℕ, _+_, _-_, _≤_, _<_, min, max}
 use native.Mathlib.Omega.{arith}
-use lib.ListN.{length, getD, take}
-use lib.Seq.{take-suc}
+use native.Mathlib.Numerals.{add-one}
 use lib.Dec.{leb, ltb}
-use borrow.Author.Tests.{lt-ltb, le-ltb, le-leb, lt-leb, ltb-true, leb-true}
-use Rattle.laws.specs.Tests.{left, right}
-use Rattle.load.specs.Stream.{endOf, openIn, total}
+use lib.ListN.{length, getD}
+use lib.Seq.{slice, slice-cons, slice-empty}
+use lib.Bits.{bitAnd}
+use borrow.Author.Tests.{lt-ltb, le-ltb, le-leb, lt-leb, ltb-true, leb-true, leb-false, eq-eqb, ne-eqb}
+use Rattle.laws.specs.Tests.{left, right, all}
+use Rattle.load.specs.Stream.{endOf, openIn, total, clashes, pairsClear}
 use Rattle.load.specs.Lists.{ltb-same}
 use Rattle.load.specs.declared.stream.Stream.{Stream}
 
@@ -42,19 +43,59 @@ open-counted t x h k =
     ltb-same (t - x .start - x .prefetch) (x .rounds) t (endOf x) (λ u. omega arith) (λ u. omega arith)
     ∙ sym (open-from t x h)
 
--- ---- what a stream adds
+-- ---- two streams
+
+pub clear-apart : (x y : Stream) → bitAnd (x .cabs) (y .cabs) ≡ 0 → not (clashes x y) ≡ true
+unfolding clashes
+clear-apart x y e = rw (eq-eqb (bitAnd (x .cabs) (y .cabs)) 0 e)
+
+-- with a cab in common, what counts is whether they show in a common round
+module _ (x y : Stream) (e : bitAnd (x .cabs) (y .cabs) ≡ 0 → ⊥) where
+  -- x begins to show after y has ended
+  pub clear-after : endOf y ≤ x .start + x .prefetch → not (clashes x y) ≡ true
+  unfolding clashes
+  clear-after h =
+      rw (
+        ne-eqb (bitAnd (x .cabs) (y .cabs)) 0 e,
+        le-ltb (max (x .start + x .prefetch) (y .start + y .prefetch)) (min (endOf x) (endOf y)) (omega arith),
+      )
+
+  -- else they do exactly if y begins to show before x has ended
+  pub clear-before : 1 ≤ x .rounds → 1 ≤ y .rounds → x .start + x .prefetch < endOf y
+      → leb (endOf x) (y .start + y .prefetch) ≡ not (clashes x y)
+  unfolding clashes
+  clear-before m n h =
+      rw (ne-eqb (bitAnd (x .cabs) (y .cabs)) 0 e) (go (leb (endOf x) (y .start + y .prefetch)) refl)
+    where
+      first : ℕ
+      first = max (x .start + x .prefetch) (y .start + y .prefetch)
+
+      last : ℕ
+      last = min (endOf x) (endOf y)
+
+      go : (v : Bool) → leb (endOf x) (y .start + y .prefetch) ≡ v → leb (endOf x) (y .start + y .prefetch) ≡ not (ltb first last)
+      go true u = rw (le-ltb first last (omega (arith, leb-true (endOf x) (y .start + y .prefetch) u))) u
+      go false u = rw (lt-ltb first last (omega (arith, leb-false (endOf x) (y .start + y .prefetch) u))) u
+
+-- ---- sums and pairs, stream by stream
 
 pub cond-most : (v : Bool) (a m : ℕ) → a ≤ m → cond v a 0 ≤ m
 cond-most true a m h = h
 cond-most false a m h = omega arith
 
--- ---- a total of a list with one more
+module _ (xs : List Stream) (i n : ℕ) (d : Stream) (h : i < n) (k : n ≤ length xs) where
+  pub total-next : (g : Stream → ℕ) → total g (slice i n xs) ≡ g (getD xs i d) + total g (slice (i + 1) n xs)
+  total-next g = simp (slice-cons i n xs d h k, add-one)
 
-pub total-append : (g : Stream → ℕ) (xs ys : List Stream) → total g (xs ++ ys) ≡ total g xs + total g ys
-total-append g [] ys = omega arith
-total-append g (x ∷ xs) ys = omega (arith, total-append g xs ys)
+  pub pairs-no : all (λ y. not (clashes (getD xs i d) y)) (slice (i + 1) n xs) ≡ false → pairsClear (slice i n xs) ≡ false
+  pairs-no e = simp (slice-cons i n xs d h k, ← add-one, e)
 
-pub total-take : (g : Stream → ℕ) (xs : List Stream) (i : ℕ) (d : Stream) → i < length xs
-    → total g (take (i + 1) xs) ≡ total g (take i xs) + g (getD xs i d)
-total-take g xs i d h =
-    rw (add-one, take-suc xs i d) (omega (arith, total-append g (take i xs) (getD xs i d ∷ [])))
+  pub pairs-next : all (λ y. not (clashes (getD xs i d) y)) (slice (i + 1) n xs) ≡ true
+      → pairsClear (slice i n xs) ≡ pairsClear (slice (i + 1) n xs)
+  pairs-next e = simp (slice-cons i n xs d h k, ← add-one, e)
+
+pub total-end : (g : Stream → ℕ) (xs : List Stream) (i n : ℕ) → i ≡ n → total g (slice i n xs) ≡ 0
+total-end g xs i n e = rw (e, slice-empty)
+
+pub pairs-end : (xs : List Stream) (i n : ℕ) → i ≡ n → pairsClear (slice i n xs) ≡ true
+pairs-end xs i n e = rw (e, slice-empty)

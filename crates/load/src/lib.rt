@@ -1,3 +1,6 @@
-// Bookings with their films' places in the file, and what question 16 asks of each by itself.
+// The load of a day's rounds, and whether a list of bookings is sound.
+pub mod cabs;
+pub mod disk;
+pub mod names;
 pub mod records;
 pub mod stream;

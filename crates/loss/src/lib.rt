@@ -1,13 +1,10 @@
 // The disk loss: what a round with k films open loses to arm movement.
 use limits::bounds::MAX_BOOKINGS;
 ghost use mathlib.Core.Path.{_≡_};
-ghost use Rattle.loss.specs.Loss.{table, lossAt};
-
-// entries of the table
-pub const ENTRIES: usize = 257;
+ghost use Rattle.loss.specs.Loss.{lossAt};
 
 // loss(k) in bytes, k from 0 to 256
-const LOSS: [u64; ENTRIES] = [
+const LOSS: [u64; 257] = [
     0,
     100000,
     141421,
@@ -276,11 +273,4 @@ pub fn loss(k: u64) -> u64
     } else {
         0
     }
-}
-
-// The whole table, for a caller that asks of many rounds: `loss` lays it down at each call.
-pub fn table() -> [u64; ENTRIES]
-    ensures { λ r. ⌜ r ≡ table ⌝ }
-{
-    LOSS
 }

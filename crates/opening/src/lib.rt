@@ -1,8 +1,8 @@
 // Opening a day.
 use model::Answer;
 use model::Day;
-use profiles::clear::clear;
 use questions::asked::opening_number;
+use sheet::clear::clear;
 ghost use mathlib.Core.List.{List};
 ghost use Prim.Native.Nat.{ℕ};
 ghost use Rattle.films.specs.Layout.{Film};

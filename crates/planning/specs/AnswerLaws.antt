@@ -1,10 +1,10 @@
 -- The answers of a call by the facts that the code's tests leave. Assumes nothing.
-use mathlib.Core.Path.{_≡_}
-use mathlib.Core.Bool.{true, false}
+use mathlib.Core.Path.{_≡_, sym, _∙_}
+use mathlib.Core.Bool.{Bool, true, false, not}
 use mathlib.Core.List.{List, _++_}
 use Prim.Native.Nat.{ℕ, zero, suc, _+_, _≤_, _<_}
 use native.Mathlib.Omega.{arith}
-use borrow.Author.Tests.{le-leb, lt-leb}
+use borrow.Author.Tests.{le-leb, lt-leb, not-true, not-false}
 use lib.ListN.{length, drop}
 use Rattle.laws.specs.Questions.{refusal}
 use Rattle.laws.specs.Sums.{largest}
@@ -33,13 +33,20 @@ module _ (sizes : List ℕ) (p b places : ℕ) where
       unfolding planQuestions
       plan-room l = simp (le-leb _ _ h, le-leb _ _ k, lt-leb _ _ l)
 
-      pub plan-none : p + length sizes ≤ places → existsBy b (sends p sizes) ≡ false → refusal (planQuestions sizes p b places) ≡ noSchedule
+      -- r is the answer to question 12
+      pub plan-none : (r : Bool) → p + length sizes ≤ places → r ≡ existsBy b (sends p sizes) → not r ≡ true
+          → refusal (planQuestions sizes p b places) ≡ noSchedule
       unfolding planQuestions
-      plan-none l e = simp (le-leb _ _ h, le-leb _ _ k, le-leb _ _ l, e)
+      plan-none r l e n =
+          let f : existsBy b (sends p sizes) ≡ false = sym e ∙ not-true r n in
+          simp (le-leb _ _ h, le-leb _ _ k, le-leb _ _ l, f)
 
-      pub plan-passes : p + length sizes ≤ places → existsBy b (sends p sizes) ≡ true → refusal (planQuestions sizes p b places) ≡ 0
+      pub plan-passes : (r : Bool) → p + length sizes ≤ places → r ≡ existsBy b (sends p sizes) → not r ≡ false
+          → refusal (planQuestions sizes p b places) ≡ 0
       unfolding planQuestions
-      plan-passes l e = simp (le-leb _ _ h, le-leb _ _ k, le-leb _ _ l, e)
+      plan-passes r l e n =
+          let t : existsBy b (sends p sizes) ≡ true = sym e ∙ not-false r n in
+          simp (le-leb _ _ h, le-leb _ _ k, le-leb _ _ l, t)
 
 -- ---- its answers
 

@@ -3,7 +3,5 @@
 pub mod Answers
 pub mod AnswerLaws
 pub mod FileAnswers
-pub mod Existence
 pub mod Written
-pub mod Slopes
 pub mod Figures

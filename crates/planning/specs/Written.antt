@@ -1,19 +1,27 @@
--- The just-in-time totals where they are written, from the last round backward: of a round, what is sent up to it and the carry of the
--- rounds after it. Assumes nothing.
+-- The just-in-time totals where they are written, from the last place backward. Assumes nothing.
 use mathlib.Core.Path.{_≡_, refl}
 use mathlib.Core.List.{List, [], _∷_}
-use Prim.Native.Nat.{ℕ, zero, suc, _+_, _-_, _*_, _≤_, _<_}
+use Prim.Native.Nat.{ℕ, zero, suc, _+_, _-_, _≤_, _<_, max}
 use native.Mathlib.Nat.{not-suc-le-zero, le-of-suc-le-suc}
 use native.Mathlib.Omega.{arith}
-use lib.ListN.{length, getD, take, drop}
+use lib.ListN.{length, getD, drop}
 use Rattle.laws.specs.Sums.{sum}
-use Rattle.retrieval.specs.Schedule.{sends}
-use Rattle.retrieval.specs.JustInTime.{due, justInTime}
-use Rattle.retrieval.specs.Carry.{carry}
-use Rattle.retrieval.specs.CarryLaws.{due-carry, prefetch}
-use Rattle.retrieval.specs.Sheet.{waiting}
+use Rattle.retrieval.specs.Schedule.{sends, totals}
+use Rattle.retrieval.specs.JustInTime.{justInTime}
+use Rattle.retrieval.specs.Minimality.{justInTime-last, justInTime-before}
+use Rattle.retrieval.specs.Round.{totals-at}
+use Rattle.retrieval.specs.Stored.{InRange}
+
+-- a list takes the p + n totals of a film
+pub record Writes (out s : List ℕ) (at n p b : ℕ) : Type 0 where
+  pub film : InRange s at n p b
+  pub places : p + n ≤ length out
 
 -- ---- sums
+
+pub sum-sends : (p : ℕ) (xs : List ℕ) → sum (sends p xs) ≡ sum xs
+sum-sends zero xs = refl
+sum-sends (suc p) xs = omega (arith, sum-sends p xs)
 
 sum-drop : (xs : List ℕ) (t : ℕ) → t < length xs → sum (drop t xs) ≡ getD xs t 0 + sum (drop (suc t) xs)
 sum-drop [] t h = absurd (not-suc-le-zero h)
@@ -29,42 +37,38 @@ turn-sum (suc k) x a xs h l ea ex =
     let ex′ : x ≡ getD xs k 0 = rw e at ex in
     rw e (omega (arith, sum-drop xs k l))
 
-sum-rest : (k : ℕ) (xs : List ℕ) → sum (drop k xs) ≤ sum xs
-sum-rest zero xs = omega arith
-sum-rest (suc k) [] = omega arith
-sum-rest (suc k) (x ∷ xs) = omega (arith, sum-rest k xs)
+-- ---- C by its place: C(k-1) stands at k behind C(-1)
 
--- and of one that takes x from what is sent before round k
-pub turn-sent : (k x sent : ℕ) (xs : List ℕ) → 0 < k → k ≤ length xs → sent + sum (drop k xs) ≡ sum xs → x ≡ getD xs (k - 1) 0
-    → (x ≤ sent) × ((sent - x) + sum (drop (k - 1) xs) ≡ sum xs)
-turn-sent k x sent xs h l e ex =
-    let d = turn-sum k x (sum (drop k xs)) xs h l refl ex in
-    let r = sum-rest (k - 1) xs in
-    (omega arith, omega arith)
+pub totals-sum : (c : ℕ) (xs : List ℕ) → getD (c ∷ totals c xs) (length xs) 0 ≡ c + sum xs
+totals-sum c [] = omega arith
+totals-sum c (x ∷ xs) = omega (arith, totals-sum (c + x) xs)
 
--- ---- the totals
+-- ---- a turn of a loop from k to k - 1, where C(k-1) is sent and x is what the round sends
 
--- of round t, where c were sent before the first
-total-at : (b c : ℕ) (xs : List ℕ) (t : ℕ) → t < length xs
-    → getD (justInTime b c xs) t 0 + sum (drop (suc t) xs) ≡ c + sum xs + carry b (drop (suc t) xs)
-total-at b c [] t h = absurd (not-suc-le-zero h)
-total-at b c (x ∷ xs) zero h = omega (arith, due-carry b c x xs)
-total-at b c (x ∷ xs) (suc t) h = omega (arith, total-at b (c + x) xs t (le-of-suc-le-suc h))
+pub turn-sent : (k x sent : ℕ) (xs : List ℕ) → 0 < k → k ≤ length xs → sent ≡ getD (0 ∷ totals 0 xs) k 0 → x ≡ getD xs (k - 1) 0
+    → sent ≡ getD (0 ∷ totals 0 xs) (k - 1) 0 + x
+turn-sent zero x sent xs h l es ex = absurd (not-suc-le-zero h)
+turn-sent (suc k) x sent xs h l es ex =
+    let e : suc k - 1 ≡ k = omega arith in
+    let ex′ : x ≡ getD xs k 0 = rw e at ex in
+    rw e (omega (arith, totals-at 0 xs k l))
 
--- a turn of a loop from round k to k - 1 of those that show, where `sent` is sent up to it and `left` is carried by the rounds after it
-pub turn-total : (b p k left sent : ℕ) (xs : List ℕ) → 0 < k → k ≤ length xs → left ≡ carry b (drop k xs)
-    → sent + sum (drop k xs) ≡ sum xs → sent + left ≡ getD (justInTime b 0 (sends p xs)) (p + k - 1) 0
-turn-total b zero zero left sent xs h l e f = absurd (not-suc-le-zero h)
-turn-total b zero (suc k) left sent xs h l e f =
-    let d : 0 + suc k - 1 ≡ k = omega arith in
-    rw d (omega (arith, total-at b 0 xs k l))
-turn-total b (suc p) k left sent xs h l e f =
-    let d : suc p + k - 1 ≡ suc (p + k - 1) = omega arith in
-    rw d (turn-total b p k left sent xs h l e f)
+-- "in the last round A = C"
+pub start-rule : (b k total : ℕ) (xs : List ℕ) → 0 < k → k ≡ length xs → total ≡ sum xs
+    → max total (total - b) ≡ getD (justInTime b 0 xs) (k - 1) 0
+start-rule b k total [] h l e = absurd (omega arith)
+start-rule b k total (x ∷ xs) h l e =
+    let d : k - 1 ≡ length xs = omega arith in
+    rw d (omega (arith, justInTime-last b 0 x xs, totals-sum 0 (x ∷ xs)))
 
--- those of the pre-fetch rounds
-pub totals-prefetch : (b p : ℕ) (xs : List ℕ) → waiting b (carry b xs) p ≡ take p (justInTime b 0 (sends p xs))
-totals-prefetch b zero xs = refl
-totals-prefetch b (suc p) xs =
-    let e : due b 0 0 (sends p xs) ≡ carry b xs - p * b = omega (arith, due-carry b 0 0 (sends p xs), prefetch b p xs) in
-    rw (e, totals-prefetch b p xs)
+-- "before it, A(t) is the larger of C(t) and A(t+1) - b, the latter taken as 0 if negative"
+pub turn-rule : (b k due sent : ℕ) (xs : List ℕ) → 0 < k - 1 → k ≤ length xs → due ≡ getD (justInTime b 0 xs) (k - 1) 0
+    → sent ≡ getD (0 ∷ totals 0 xs) (k - 1) 0 → max sent (due - b) ≡ getD (justInTime b 0 xs) ((k - 1) - 1) 0
+turn-rule b zero due sent xs h l ed es = absurd (omega arith)
+turn-rule b (suc zero) due sent xs h l ed es = absurd (omega arith)
+turn-rule b (suc (suc t)) due sent xs h l ed es =
+    let d : suc (suc t) - 1 ≡ suc t = omega arith in
+    let d′ : (suc (suc t) - 1) - 1 ≡ t = omega arith in
+    let ed′ : due ≡ getD (justInTime b 0 xs) (suc t) 0 = rw d at ed in
+    let es′ : sent ≡ getD (totals 0 xs) t 0 = rw d at es in
+    rw d′ (omega (arith, justInTime-before b 0 xs t l))

@@ -1,6 +1,6 @@
 -- The cabs of the films showing, booking by booking. Assumes nothing.
-use mathlib.Core.Path.{_≡_, refl, ap₂}
-use mathlib.Core.Bool.{Bool, true, false, cond, _&&_}
+use mathlib.Core.Path.{_≡_, ap₂}
+use mathlib.Core.Bool.{Bool, cond, _&&_}
 use mathlib.Core.List.{List}
 use Prim.Native.Nat.{ℕ, _+_, _-_, _≤_, _<_}
 use native.Mathlib.Omega.{arith}
@@ -9,8 +9,8 @@ use lib.Dec.{leb, ltb}
 use lib.ListN.{length, getD}
 use lib.Seq.{slice, slice-cons, slice-empty}
 use lib.Bits.{bitOr}
-use borrow.Author.Tests.{leb-false, lt-leb}
-use Rattle.model.specs.Day.{Setting, openAt, showsAt, cabsAt, ends}
+use borrow.Author.Tests.{lt-leb}
+use Rattle.model.specs.Day.{Setting, showsAt, cabsAt}
 use Rattle.model.specs.Calls.{cabsJoined}
 use Rattle.model.specs.declared.Booking.{Booking}
 use Rattle.load.specs.Lists.{leb-same, ltb-same}
@@ -25,20 +25,6 @@ cabsIn t x = cond (showsIn t x) (x .cabs) 0
 pub cabs-tied : (S : Setting) (f : List ℕ) (t : ℕ) (b : Booking) (x : Stream) → Tied S f b x → cabsIn t x ≡ cabsAt S t b
 unfolding showsIn showsAt
 cabs-tied S f t b x w = rw (tied-ends S f b x w, w .start, w .prefetch, w .cabs)
-
-neither : (a : Bool) (n : ℕ) → cond (a && false) n 0 ≡ 0
-neither true n = refl
-neither false n = refl
-
--- a booking that is not open keeps no cab busy
-pub cabs-shut : (S : Setting) (t : ℕ) (b : Booking) → openAt S t b ≡ false → cabsAt S t b ≡ 0
-unfolding openAt showsAt
-cabs-shut S t b e = go (leb (b .start) t) (ltb t (ends S b)) refl refl e
-  where
-    go : (u v : Bool) → leb (b .start) t ≡ u → ltb t (ends S b) ≡ v → u && v ≡ false → cabsAt S t b ≡ 0
-    go false v p q z = rw (lt-leb (b .start + b .prefetch) t (omega (arith, leb-false (b .start) t p)))
-    go true false p q z = rw q (neither (leb (b .start + b .prefetch) t) (b .cabs))
-    go true true p q z = let n : _≡_ {A = ℕ} 0 1 = cc in absurd (omega arith)
 
 -- ---- counted from its start
 

@@ -4,7 +4,4 @@ pub mod Contract
 pub mod Ready
 pub mod LineLaws
 pub mod CabLaws
-pub mod ReportLaws
 pub mod Laws
-pub mod Round
-pub mod RoundLaws

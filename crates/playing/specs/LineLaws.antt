@@ -20,7 +20,7 @@ use Rattle.playing.specs.Lines.{noLine, padded, lineAt}
 
 -- where a schedule exists and the booking is open, the line by its stream is the line by the schedule rule
 pub line-tied : (S : Setting) (f : List ℕ) (t : ℕ) (b : Booking) (x : Stream) → Tied S f b x → exists S b ≡ true → openIn t x ≡ true
-    → lineAt f t (b .name) x ≡ lineOf S t b
+    → lineAt f t b x ≡ lineOf S t b
 line-tied S f t b x w e o =
     rw (sym (tied-sends S f b x w), w .start, w .reserve) (line-same S t b e (tied-open S f b x w t ∙ o))
 

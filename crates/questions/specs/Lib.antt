@@ -9,7 +9,3 @@ pub mod Sound
 pub mod ListSound
 pub mod SheetOf
 pub mod Start
-pub mod Events
-pub mod Order
-pub mod Listed
-pub mod Laying

@@ -25,7 +25,7 @@ use Rattle.load.specs.Stream.{noStream, endOf, heldIn}
 use Rattle.load.specs.Basic.{basicOf, endsBy, Bounded, Playable, Within, EachOf}
 use Rattle.load.specs.Disk.{diskKept, startsKept}
 use Rattle.load.specs.declared.stream.Stream.{Stream}
-use Rattle.windows.specs.Memory.{feasible, memoryKept}
+use Rattle.sheet.specs.Memory.{feasible, memoryKept}
 use Rattle.questions.specs.Tied.{AllTied, all-tied, opened-tied, reserved-tied, held-tied, pairs-tied, basic-tied, exists-tied}
 
 -- two tests that agree below n
@@ -70,7 +70,7 @@ module _ (S : Setting) (f : List ℕ) (loss : S .loss ≡ lossAt) (bs : List Boo
 -- ---- what the streams of bookings that pass are good for
 
 -- within the bounds, and within the day
-pub basic-bounded : (T : ℕ) (x : Stream) → T ≤ maxDay → basicOf T x ≡ true → Bounded x × Within T x
+basic-bounded : (T : ℕ) (x : Stream) → T ≤ maxDay → basicOf T x ≡ true → Bounded x × Within T x
 unfolding basicOf endsBy
 basic-bounded T x h e =
     let one = leb 1 (x .rounds) in

@@ -20,7 +20,7 @@ use Rattle.model.specs.declared.Booking.{Booking}
 use Rattle.model.specs.declared.Request.{Request}
 use Rattle.load.specs.Stream.{lengthOf, profileOf, clashes}
 use Rattle.load.specs.declared.stream.Stream.{Stream}
-use Rattle.fitting.specs.Fit.{Query, queryOf, startAt, diskFits, memoryFits, fitsAt}
+use Rattle.search.specs.Fit.{Query, queryOf, startAt, diskFits, memoryFits, fitsAt}
 use Rattle.questions.specs.Tied.{Tied, AllTied, tied-rounds, tied-sends, clash-tied, all-tied}
 use Rattle.questions.specs.FitParts.{diskTakes, memoryTakes, fit-parts}
 use Rattle.questions.specs.Sound.{below-same}

@@ -1,7 +1,4 @@
 // What every call of a day asks before its own questions: of the day, its sheet and the list of bookings.
 pub mod asked;
-pub mod events;
-pub mod laying;
-pub mod order;
 mod soundness;
 pub mod standing;

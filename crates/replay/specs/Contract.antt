@@ -14,10 +14,10 @@ use Rattle.model.specs.PlainDay.{atFirst, plainAfter, everTaken}
 use Rattle.model.specs.Expected.{expected}
 use Rattle.model.specs.declared.Booking.{Booking}
 use Rattle.model.specs.declared.Day.{Day}
-use Rattle.journal.specs.Journal.{entries}
+use Rattle.replay.specs.Journal.{entries}
 use Rattle.replay.specs.PlainRun.{callsOf, plainLog, entriesDone}
 use Rattle.replay.specs.declared.Replayed.{Replayed}
-use Rattle.journal.specs.declared.Entry.{Entry}
+use Rattle.replay.specs.declared.journal.Entry.{Entry}
 
 -- the day before an opening
 abbrev pub noDay : Day

@@ -16,13 +16,11 @@ use Rattle.model.specs.declared.Line.{Line}
 use Rattle.model.specs.declared.Answer.the-variants.{Refused}
 use Rattle.playing.specs.Lines.{noLine}
 use Rattle.playing.specs.Contract.{linesIn}
-use Rattle.table.specs.Words.{Wrote}
-use Rattle.journal.specs.Log.{answerWords, loggedWords}
+use Rattle.replay.specs.Log.{answerWords, loggedWords, Wrote}
 use Rattle.replay.specs.Contract.{Result}
-use Rattle.journal.specs.declared.Entry.{Entry}
-use Rattle.journal.specs.declared.Entry.the-variants.{Book, Drop, Play, Unknown}
+use Rattle.replay.specs.declared.journal.Entry.{Entry}
+use Rattle.replay.specs.declared.journal.Entry.the-variants.{Book, Drop, Play, Unknown}
 use Rattle.replay.specs.declared.step.Stepped.{Stepped}
-use Rattle.replay.specs.declared.step.PlayStep.{PlayStep}
 
 -- the report that an entry's call is lent: PLAY's has blank lines
 abbrev pub blankReport : Entry → List Line
@@ -94,16 +92,6 @@ module _ (S : Setting) where
     pub record Steps : Type 0 where
       pub took : r .done ≡ true → Took
       pub kept : r .done ≡ false → Kept
-
--- what a PLAY leaves is a step's, with the records as they were
-abbrev pub asStep : PlayStep → List Booking → Stepped
-asStep r rows = record { done = r .done; next = r .next; day = r .day; rows = rows }
-
--- an entry that is done with the records as they were, or not at all
-pub record TriesPlay (S : Setting) (day : Day) (rows : List Booking) (places : ℕ) (e : Entry) (old : List ℕ) (at : ℕ) (r : PlayStep) (log′ : List ℕ) : Type 0 where
-  pub took : r .done ≡ true → (opens reserves helds : List ℕ)
-      → Took S (stateOf day rows places opens reserves helds) e old at (asStep r rows) log′ opens reserves helds
-  pub kept : r .done ≡ false → log′ ≡ old
 
 -- an entry that is refused with this number before its call
 pub record Refuses (number : ℕ) (before : Day) (list : List Booking) (old : List ℕ) (at : ℕ) (r : Stepped) (log′ : List ℕ) : Type 0 where

@@ -12,12 +12,12 @@ use Rattle.model.specs.Code.{stateOf, dayOf}
 use Rattle.model.specs.declared.Booking.{Booking}
 use Rattle.model.specs.declared.Day.{Day}
 use Rattle.questions.specs.Given.{settingAt}
-use Rattle.journal.specs.Journal.{entryAt, entriesFrom}
-use Rattle.journal.specs.Writing.{wrote-length, wrote-front, wrote-back}
+use Rattle.replay.specs.Journal.{entryAt, entriesFrom}
+use Rattle.replay.specs.Writing.{wrote-length, wrote-front, wrote-back}
 use Rattle.replay.specs.Contract.{Replays}
 use Rattle.replay.specs.DeskRun.{DeskRun, outcomeWords, afterRun, noRun, carried, deskRun, runResult, Took, Kept}
 use Rattle.replay.specs.Pictured.{Pictured, pictured-next}
-use Rattle.journal.specs.declared.Entry.{Entry}
+use Rattle.replay.specs.declared.journal.Entry.{Entry}
 use Rattle.replay.specs.declared.step.Stepped.{Stepped}
 
 -- ---- one entry of a run

@@ -22,7 +22,7 @@ use Rattle.model.specs.declared.Answer.the-variants as A
 use Rattle.opening.specs.Contract.{asked, Opens}
 use Rattle.opening.specs.declared.Opened.{Opened}
 use Rattle.questions.specs.Given.{settingAt}
-use Rattle.journal.specs.Journal.{entries}
+use Rattle.replay.specs.Journal.{entries}
 use Rattle.replay.specs.Contract.{noDay, lentTo, Result, Replays, resultBy, result}
 use Rattle.replay.specs.DeskRun.{deskRun, runResult}
 use Rattle.replay.specs.RunLaws.{run-result}

@@ -1,33 +1,30 @@
 -- What a replay finds between two entries: the lent day is the one that the plain day expects, so that 14, 15, 11 and 16 would pass and
 -- need not be asked. Assumes nothing.
-use mathlib.Core.Path.{_≡_, refl, ap, _∙_}
-use mathlib.Core.List.{List, _++_}
-use Prim.Native.Nat.{ℕ, max, _≤_}
+use mathlib.Core.Path.{_≡_, ap, _∙_}
+use mathlib.Core.List.{List}
+use Prim.Native.Nat.{ℕ, max}
 use native.Mathlib.Omega.{arith}
-use lib.ListN.{length, take, drop, length-append}
-use lib.Seq.{take-at}
+use lib.ListN.{length}
 use borrow.Author.Tests.{le-leb}
 use Rattle.laws.specs.Questions.{refusal}
 use Rattle.films.specs.Questions.{verdict}
 use Rattle.model.specs.Day.{Setting, State}
-use Rattle.model.specs.PlacesLaws.{perRound-same}
 use Rattle.model.specs.Calls.{roundsInRange, dayInRange, limitsInRange, sheetLong, sound}
 use Rattle.model.specs.Code.{stateOf}
 use Rattle.model.specs.PlainDay.{PlainDay, atFirst}
-use Rattle.model.specs.Expected.{expected, otherPlaces}
-use Rattle.model.specs.FitLaws.{decFits, rule-held}
+use Rattle.model.specs.Expected.{expected}
+use Rattle.model.specs.FitLaws.{decFits}
 use Rattle.model.specs.Steps.{Accepted, Good, seen}
 use Rattle.model.specs.Runs.{good-first}
 use Rattle.model.specs.Claim.{InBetween}
 use Rattle.model.specs.declared.Booking.{Booking}
 use Rattle.model.specs.declared.Day.{Day}
 use Rattle.questions.specs.Given.{settingAt}
-use Rattle.questions.specs.SheetOf.{SheetKept, sheet-kept}
 use Rattle.questions.specs.Numbers.{roundsHold, dayHolds, limitsHold, sheetHolds, soundHolds, standingAsks}
 use Rattle.replay.specs.PlainRun.{plainEntry}
 use Rattle.replay.specs.DeskRun.{carried}
 use Rattle.replay.specs.RunLaws.{entry-step}
-use Rattle.journal.specs.declared.Entry.{Entry}
+use Rattle.replay.specs.declared.journal.Entry.{Entry}
 
 -- d is the picture of a plain day that was reached from an accepted opening
 pub record Pictured (S : Setting) (d : State) : Type 0 where
@@ -45,27 +42,6 @@ pub pictured-between : (S : Setting) (d : State) → Pictured S d → InBetween 
 pictured-between S d p =
     let v = seen S (p .lent) (decFits S) (p .accepted) (p .plain) (p .taken) (p .good) in
     rw (p .is) (record { day = v .clock; limits = p .accepted .limits; sheet = v .sheet; list = v .sound })
-
--- the sheet is that of the standing bookings
-pub pictured-sheet : (S : Setting) (d : State) → Pictured S d
-    → SheetKept S (take (d .count) (d .records)) (d .opens) (d .reserves) (d .helds)
-pictured-sheet S d p =
-    let lent = p .lent in
-    let bs = p .plain .standing in
-    let there = take-at bs (otherPlaces (length bs) (p .taken) (lent .records)) (length bs) refl in
-    rw (p .is, there)
-    (sheet-kept S bs (lent .opens) (lent .reserves) (lent .helds) _ _ _
-    (record {
-      films = refl;
-      reserve-sums = refl;
-      held-sums = ap (λ (l : List ℕ). l ++ drop (S .rounds) (lent .helds)) (perRound-same _ _ (λ t. rule-held S t bs) 0 (S .rounds));
-    }))
-
--- the standing bookings stand in the records' places
-pub pictured-there : (S : Setting) (d : State) → Pictured S d → d .count ≤ length (d .records)
-pictured-there S d p =
-    let bs = p .plain .standing in
-    rw (p .is) (omega (arith, length-append bs (otherPlaces (length bs) (p .taken) (p .lent .records))))
 
 -- each entry keeps it so
 pub pictured-next : (S : Setting) (d : State) → Pictured S d → (e : Entry) → Pictured S (carried S d e .state)

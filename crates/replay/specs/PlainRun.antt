@@ -9,9 +9,9 @@ use Rattle.model.specs.Day.{Setting}
 use Rattle.model.specs.Fit.{Fits}
 use Rattle.model.specs.PlainDay.{PlainDay, PlainOutcome, Arguments, booking, dropping, playing, plainRefused, plainCall}
 use Rattle.model.specs.declared.Booking.{Booking}
-use Rattle.journal.specs.Log.{loggedWords}
-use Rattle.journal.specs.declared.Entry.{Entry}
-use Rattle.journal.specs.declared.Entry.the-variants.{Book, Drop, Play, Unknown}
+use Rattle.replay.specs.Log.{loggedWords}
+use Rattle.replay.specs.declared.journal.Entry.{Entry}
+use Rattle.replay.specs.declared.journal.Entry.the-variants.{Book, Drop, Play, Unknown}
 
 -- the calls among the entries, as the plain day is fed them
 abbrev pub callsOf : List Entry → List Arguments

@@ -24,12 +24,12 @@ use Rattle.model.specs.declared.Request.{Request}
 use Rattle.model.specs.declared.Line.{Line}
 use Rattle.playing.specs.Lines.{noLine}
 use Rattle.playing.specs.Contract.{linesIn}
-use Rattle.journal.specs.Log.{loggedWords}
+use Rattle.replay.specs.Log.{loggedWords}
 use Rattle.replay.specs.PlainRun.{callsOf, plainEntry, entryLog, plainLog, entriesDone}
 use Rattle.replay.specs.Contract.{resultAfter}
 use Rattle.replay.specs.DeskRun.{DeskRun, blankReport, outcomeWords, afterRun, noRun, carried, deskRun, runResult}
-use Rattle.journal.specs.declared.Entry.{Entry}
-use Rattle.journal.specs.declared.Entry.the-variants.{Book, Drop, Play, Unknown}
+use Rattle.replay.specs.declared.journal.Entry.{Entry}
+use Rattle.replay.specs.declared.journal.Entry.the-variants.{Book, Drop, Play, Unknown}
 
 module _ (S : Setting) (lent : State) (fits : (bs : List Booking) → Dec (Fits S bs)) (accepted : Accepted S lent) where
   -- ---- one entry

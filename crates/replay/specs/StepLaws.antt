@@ -28,14 +28,12 @@ use Rattle.dropping.specs.declared.DropOutcome.{DropOutcome}
 use Rattle.playing.specs.Lines.{noLine}
 use Rattle.playing.specs.Contract.{linesIn, linesFor, Plays}
 use Rattle.playing.specs.declared.Played as Play
-use Rattle.table.specs.Words.{linesWords, Wrote}
-use Rattle.journal.specs.Log.{answerWords, loggedWords}
-use Rattle.journal.specs.Writing.{wrote-then, lines-length}
-use Rattle.replay.specs.DeskRun.{blankReport, refusalOf, outcomeWords, carried, Took, Kept, Steps, asStep, TriesPlay, Refuses}
-use Rattle.journal.specs.declared.Entry.{Entry}
-use Rattle.journal.specs.declared.Entry.the-variants as E
+use Rattle.replay.specs.Log.{answerWords, linesWords, loggedWords, Wrote}
+use Rattle.replay.specs.Writing.{wrote-then, lines-length}
+use Rattle.replay.specs.DeskRun.{blankReport, refusalOf, outcomeWords, carried, Took, Kept, Steps, Refuses}
+use Rattle.replay.specs.declared.journal.Entry.{Entry}
+use Rattle.replay.specs.declared.journal.Entry.the-variants as E
 use Rattle.replay.specs.declared.step.Stepped.{Stepped}
-use Rattle.replay.specs.declared.step.PlayStep.{PlayStep}
 
 -- an answer has three words
 pub answer-length : (a : Answer) → length (answerWords a) ≡ 3
@@ -239,41 +237,21 @@ module _ (f : List ℕ) (day : Day) (rows : List Booking) (places room : ℕ) (x
             state = same-state (ap (λ (u : Day). u .now) y) (ap (λ (u : Day). u .count) y) refl z refl refl refl;
           })
 
-      -- they do, and stand in the log
-      pub play-whole : linesIn (x .answer) ≤ (length old - p - 3) / 4 → r .done ≡ true → r .day ≡ x .day → r .rows ≡ rows
-          → Wrote old p (loggedWords (x .answer) (take (linesIn (x .answer)) (x .lines))) log′ (r .next)
-          → Steps (settingAt f day) asLent (E.Play room) old p r log′ opens reserves helds
-      play-whole less t y z w =
-          let blank = replicate room noLine in
-          let e = length-replicate room noLine in
-          steps-done (settingAt f day) asLent (E.Play room) old p r log′ opens reserves helds t
-          (record {
-            fit = omega (arith, play-length);
-            wrote = rw play-words w;
-            day = y ∙ sym (plays .day opens reserves helds blank e);
-            state =
-                same-state (ap (λ (u : Day). u .now) y) (ap (λ (u : Day). u .count) y) refl z refl refl refl
-                ∙ sym (plays .state opens reserves helds blank e);
-          })
-
-      -- written in two parts
+      -- they do
       pub play-done : linesIn (x .answer) ≤ (length old - p - 3) / 4 → r .done ≡ true → r .day ≡ x .day → r .rows ≡ rows
           → (mid : List ℕ) (from : ℕ) → Wrote old p (answerWords (x .answer)) mid from
           → Wrote mid from (linesWords (take (linesIn (x .answer)) (x .lines))) log′ (r .next)
           → Steps (settingAt f day) asLent (E.Play room) old p r log′ opens reserves helds
       play-done less t y z mid from v w =
+          let blank = replicate room noLine in
+          let e = length-replicate room noLine in
           let three = answer-length (x .answer) in
-          play-whole less t y z
-          (wrote-then old p (answerWords (x .answer)) mid from (linesWords (take (linesIn (x .answer)) (x .lines))) log′ (r .next) (omega arith) v w)
-
--- ---- with the records as they were
-
-module _ (S : Setting) (day : Day) (rows : List Booking) (places : ℕ) (e : Entry) (old : List ℕ) (at : ℕ) (r : PlayStep) (log′ : List ℕ) where
-  -- nothing is done
-  pub tries-none : r .done ≡ false → log′ ≡ old → TriesPlay S day rows places e old at r log′
-  tries-none f l = record { took = λ t. absurd (true≢false (sym t ∙ f)); kept = λ u. l }
-
-  -- a step, whatever the sheet
-  pub tries-step : ((opens reserves helds : List ℕ) → Steps S (stateOf day rows places opens reserves helds) e old at (asStep r rows) log′ opens reserves helds)
-      → TriesPlay S day rows places e old at r log′
-  tries-step s = record { took = λ t o v h. s o v h .took t; kept = λ f. s [] [] [] .kept f .log }
+          steps-done (settingAt f day) asLent (E.Play room) old p r log′ opens reserves helds t
+          (record {
+            fit = omega (arith, play-length);
+            wrote = rw play-words (wrote-then old p (answerWords (x .answer)) mid from (linesWords (take (linesIn (x .answer)) (x .lines))) log′ (r .next) (omega arith) v w);
+            day = y ∙ sym (plays .day opens reserves helds blank e);
+            state =
+                same-state (ap (λ (u : Day). u .now) y) (ap (λ (u : Day). u .count) y) refl z refl refl refl
+                ∙ sym (plays .state opens reserves helds blank e);
+          })

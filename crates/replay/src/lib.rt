@@ -1,21 +1,18 @@
 // Replay of a day's journal.
-pub mod rounds;
+pub mod journal;
+pub mod log;
 pub mod step;
 
 use films::catalogue::catalogue;
 use films::types::Catalogue;
 use journal::ENTRY_WORDS;
 use journal::entry_at;
-use kept::keep_table;
 use limits::bounds::MAX_BOOKINGS;
 use model::Answer;
 use model::Booking;
 use model::Day;
 use opening::open;
-use player::ahead::AHEAD_WORDS;
-use rounds::play_span;
 use step::step;
-use table::streams::TABLE_WORDS;
 ghost use mathlib.Core.Path.{_≡_};
 ghost use mathlib.Core.List.{List};
 ghost use lib.ListN.{length};
@@ -26,11 +23,10 @@ ghost use Rattle.model.specs.Fit.{Fits};
 ghost use Rattle.model.specs.declared.Booking.{Booking};
 ghost use Rattle.opening.specs.Contract.{asked};
 ghost use Rattle.questions.specs.Given.{settingAt};
-ghost use Rattle.journal.specs.Journal.{entries};
+ghost use Rattle.replay.specs.Journal.{entries};
 ghost use Rattle.replay.specs.Contract.{lentTo, result, Replays};
 ghost use Rattle.replay.specs.DeskRun.{deskRun, runResult};
 ghost use Rattle.replay.specs.Pictured.{Pictured};
-ghost use Rattle.replay.specs.RowLaws.{rowsKept};
 
 // What a replay gives: the opening's refusal or 0, how many entries were done, how many words of the log were written, the day and
 // the list's first 256 places.
@@ -55,15 +51,8 @@ fn number_of(answer: Answer) -> u32
     }
 }
 
-// How many of the table's rows serve after an entry, by the bookings before it and after it: all where none was taken out.
-fn rows_kept(before: u64, after: u64) -> usize
-    ensures { λ r. ⌜ r ≡ rowsKept before after ⌝ }
-{
-    if before <= after { before as usize } else { 0 }
-}
-
 // Carries the journal's entries out in order, from an opened day on, until one's words do not fit in what is left of the log. The
-// file's catalogue is c. `active` and `ahead` are written anew for the PLAYs of a span, so that between spans they are workspace.
+// file's catalogue is c.
 fn run(
     file: &[u8],
     c: Catalogue,
@@ -80,48 +69,21 @@ fn run(
     ensures { λ r. ⌜ Replays (runResult (settingAt (now (file .entry)) day) (deskRun (settingAt (now (file .entry)) day) (stateOf day rows places (now (opens .entry)) (now (reserves .entry)) (now (helds .entry))) (length (now (log .entry))) (entries (now (journal .entry))))) (now (log .entry)) r (now (log .exit)) (now (opens .exit)) (now (reserves .exit)) (now (helds .exit)) ⌝ }
 {
     let count = journal.len() / ENTRY_WORDS;
-    let verdict = c.verdict;
-    let mut table = [0u64; TABLE_WORDS];
-    let mut active = [0u64; TABLE_WORDS];
-    let mut ahead = [0u64; AHEAD_WORDS];
-    keep_table(file, c, day, rows, 0, &mut table);
     let mut today = day;
     let mut list = rows;
     let mut at = 0;
     let mut i = 0;
     while i < count {
-        let span = play_span(
-            file,
-            verdict,
-            today,
-            &table,
-            &mut active,
-            &mut ahead,
-            journal,
-            i,
-            count,
-            log,
-            at,
-        );
-        let here = span.day;
-        let place = span.next;
-        if i < span.entry {
-            today = here;
-            at = place;
-            i = span.entry;
-            continue;
-        }
+        let entry = entry_at(journal, i);
         let stepped = step(
             file,
             c,
-            here,
+            today,
             list,
             places,
-            entry_at(journal, i),
+            entry,
             log,
-            place,
-            &mut active,
-            &mut ahead,
+            at,
             opens,
             reserves,
             helds,
@@ -130,16 +92,15 @@ fn run(
             return Replayed {
                 refusal: 0,
                 entries: i as u64,
-                words: place as u64,
-                day: here,
+                words: at as u64,
+                day: today,
                 rows: list,
             };
         }
         let after = stepped.day;
-        list = stepped.rows;
-        let kept = rows_kept(here.count, after.count);
-        keep_table(file, c, after, list, kept, &mut table);
+        let left = stepped.rows;
         today = after;
+        list = left;
         at = stepped.next;
         i += 1;
     }

@@ -1,12 +1,12 @@
 // One entry carried out on the day, and logged.
-use booking::book_kept;
-use dropping::drop_kept;
+use crate::journal::Entry;
+use crate::log::ANSWER_WORDS;
+use crate::log::LINE_WORDS;
+use crate::log::write_answer;
+use crate::log::write_lines;
+use booking::book_standing;
+use dropping::drop_standing;
 use films::types::Catalogue;
-use journal::Entry;
-use journal::log::ANSWER_WORDS;
-use journal::log::LINE_WORDS;
-use journal::log::write_answer;
-use journal::log::write_lines;
 use limits::bounds::MAX_BOOKINGS;
 use limits::refusals::COMMAND;
 use model::Answer;
@@ -15,41 +15,28 @@ use model::Day;
 use model::Request;
 use playing::play_standing;
 ghost use mathlib.Core.Path.{_≡_};
-ghost use mathlib.Core.Bool.{false};
 ghost use mathlib.Core.List.{List};
 ghost use Prim.Native.Nat.{ℕ, _+_, _≤_};
-ghost use lib.ListN.{length, take};
+ghost use lib.ListN.{length};
 ghost use Rattle.laws.specs.Questions.{refusal};
 ghost use Rattle.films.specs.Catalogue.{catalogueOf};
 ghost use Rattle.model.specs.Code.{stateOf};
+ghost use Rattle.model.specs.Claim.{InBetween};
 ghost use Rattle.questions.specs.Given.{settingAt};
 ghost use Rattle.questions.specs.Numbers.{standingAsks};
-ghost use Rattle.questions.specs.SheetOf.{SheetKept};
-ghost use Rattle.table.specs.Columns.{tableWords};
-ghost use Rattle.booking.specs.Own.{maxLength};
 ghost use Rattle.playing.specs.Contract.{linesIn};
-ghost use Rattle.replay.specs.DeskRun.{refusalOf, Refuses, asStep, Steps};
-ghost use Rattle.replay.specs.Pictured.{Pictured};
-ghost use Rattle.journal.specs.declared.Entry.the-variants.{Book, Drop, Play};
+ghost use Rattle.replay.specs.DeskRun.{refusalOf, Refuses, Steps};
+ghost use Rattle.replay.specs.declared.journal.Entry.the-variants.{Book, Drop, Play};
 
-// What an entry leaves: whether it was done, the place in the log after it, the day and the records' places, which stand first as in
-// `booking::Outcome`.
+// What an entry leaves: whether it was done, the place in the log after it, the day and the records' places.
 pub struct Stepped {
+    pub done: bool,
+    pub next: usize,
+    pub day: Day,
     pub rows: [Booking; MAX_BOOKINGS],
-    pub done: bool,
-    pub next: usize,
-    pub day: Day,
 }
 
-// What a PLAY leaves, with the records as they were.
-pub struct PlayStep {
-    pub done: bool,
-    pub next: usize,
-    pub day: Day,
-}
-
-// BOOK, where the log has three places left, the questions before booking's own have passed and the sheet is that of the standing
-// bookings. `table` and `profile` are workspace, whatever stands there.
+// BOOK, where the log has three places left and the questions before booking's own have passed.
 fn step_book(
     file: &[u8],
     c: Catalogue,
@@ -59,32 +46,18 @@ fn step_book(
     q: Request,
     log: &mut [u64],
     at: usize,
-    table: &mut [u64],
-    profile: &mut [u64],
     opens: &mut [u64],
     reserves: &mut [u64],
     helds: &mut [u64],
 ) -> Stepped
-    requires { ⌜ (at + 3 ≤ length (now log)) × (c ≡ catalogueOf (now file)) × (refusal (standingAsks (now file) day rows places (length (now opens)) (length (now reserves)) (length (now helds))) ≡ 0) × SheetKept (settingAt (now file) day) (take (day .count) rows) (now opens) (now reserves) (now helds) × (tableWords ≤ length (now table)) × (maxLength ≤ length (now profile)) ⌝ }
+    requires { ⌜ (at + 3 ≤ length (now log)) × (c ≡ catalogueOf (now file)) × (refusal (standingAsks (now file) day rows places (length (now opens)) (length (now reserves)) (length (now helds))) ≡ 0) ⌝ }
     ensures { λ r. ⌜ Steps (settingAt (now (file .entry)) day) (stateOf day rows places (now (opens .entry)) (now (reserves .entry)) (now (helds .entry))) (Book q) (now (log .entry)) at r (now (log .exit)) (now (opens .exit)) (now (reserves .exit)) (now (helds .exit)) ⌝ }
 {
-    let booked = book_kept(
-        file,
-        c,
-        day,
-        rows,
-        places,
-        q,
-        table,
-        profile,
-        opens,
-        reserves,
-        helds,
-    );
+    let booked = book_standing(file, c, day, rows, places, q, opens, reserves, helds);
     let answer = booked.answer;
-    let next = write_answer(log, at, answer);
     let after = booked.day;
     let left = booked.rows;
+    let next = write_answer(log, at, answer);
     Stepped {
         done: true,
         next,
@@ -93,7 +66,7 @@ fn step_book(
     }
 }
 
-// DROP, where the log has three places left, the questions before 19 have passed and the sheet is that of the standing bookings.
+// DROP, where the log has three places left and the questions before 19 have passed.
 fn step_drop(
     file: &[u8],
     c: Catalogue,
@@ -107,14 +80,14 @@ fn step_drop(
     reserves: &mut [u64],
     helds: &mut [u64],
 ) -> Stepped
-    requires { ⌜ (at + 3 ≤ length (now log)) × (c ≡ catalogueOf (now file)) × (refusal (standingAsks (now file) day rows places (length (now opens)) (length (now reserves)) (length (now helds))) ≡ 0) × SheetKept (settingAt (now file) day) (take (day .count) rows) (now opens) (now reserves) (now helds) ⌝ }
+    requires { ⌜ (at + 3 ≤ length (now log)) × (c ≡ catalogueOf (now file)) × (refusal (standingAsks (now file) day rows places (length (now opens)) (length (now reserves)) (length (now helds))) ≡ 0) ⌝ }
     ensures { λ r. ⌜ Steps (settingAt (now (file .entry)) day) (stateOf day rows places (now (opens .entry)) (now (reserves .entry)) (now (helds .entry))) (Drop name) (now (log .entry)) at r (now (log .exit)) (now (opens .exit)) (now (reserves .exit)) (now (helds .exit)) ⌝ }
 {
-    let dropped = drop_kept(file, c, day, rows, places, name, opens, reserves, helds);
+    let dropped = drop_standing(file, c, day, rows, places, name, opens, reserves, helds);
     let answer = dropped.answer;
-    let next = write_answer(log, at, answer);
     let after = dropped.day;
     let left = dropped.rows;
+    let next = write_answer(log, at, answer);
     Stepped {
         done: true,
         next,
@@ -147,29 +120,31 @@ fn step_play(
     room: u64,
     log: &mut [u64],
     at: usize,
-) -> PlayStep
+) -> Stepped
     requires { ⌜ (at + 3 ≤ length (now log)) × (c ≡ catalogueOf (now file)) × (refusal (standingAsks (now file) day rows places (day .rounds) (day .rounds) (day .rounds)) ≡ 0) ⌝ }
-    ensures { λ r. ⌜ ((opens reserves helds : List ℕ) → Steps (settingAt (now (file .entry)) day) (stateOf day rows places opens reserves helds) (Play room) (now (log .entry)) at (asStep r rows) (now (log .exit)) opens reserves helds) ⌝ }
+    ensures { λ r. ⌜ ((opens reserves helds : List ℕ) → Steps (settingAt (now (file .entry)) day) (stateOf day rows places opens reserves helds) (Play room) (now (log .entry)) at r (now (log .exit)) opens reserves helds) ⌝ }
 {
     let played = play_standing(file, c, day, rows, places, room);
     let answer = played.answer;
     let count = line_count(answer);
     let fitting = ((log.len() - at - ANSWER_WORDS) / LINE_WORDS) as u64;
     if fitting < count {
-        return PlayStep {
+        return Stepped {
             done: false,
             next: at,
             day,
+            rows,
         };
     }
     let after = played.day;
     let lines = played.lines;
     let from = write_answer(log, at, answer);
     let next = write_lines(log, from, lines, count as usize);
-    PlayStep {
+    Stepped {
         done: true,
         next,
         day: after,
+        rows,
     }
 }
 
@@ -205,8 +180,8 @@ fn refusal_of(entry: Entry, verdict: u32) -> u32
     }
 }
 
-// Carries an entry out and logs it from place `at` on; where its words do not fit, nothing is done. The file's catalogue is c, 14,
-// 15, 11 and 16 would pass, and the sheet is that of the standing bookings. `table` and `profile` are workspace, whatever stands there.
+// Carries an entry out and logs it from place `at` on; where its words do not fit, nothing is done. The file's catalogue is c, and
+// 14, 15, 11 and 16 would pass.
 pub fn step(
     file: &[u8],
     c: Catalogue,
@@ -216,13 +191,11 @@ pub fn step(
     entry: Entry,
     log: &mut [u64],
     at: usize,
-    table: &mut [u64],
-    profile: &mut [u64],
     opens: &mut [u64],
     reserves: &mut [u64],
     helds: &mut [u64],
 ) -> Stepped
-    requires { ⌜ (at ≤ length (now log)) × (c ≡ catalogueOf (now file)) × Pictured (settingAt (now file) day) (stateOf day rows places (now opens) (now reserves) (now helds)) × (tableWords ≤ length (now table)) × (maxLength ≤ length (now profile)) ⌝ }
+    requires { ⌜ (at ≤ length (now log)) × (c ≡ catalogueOf (now file)) × InBetween (settingAt (now file) day) (stateOf day rows places (now opens) (now reserves) (now helds)) ⌝ }
     ensures { λ r. ⌜ Steps (settingAt (now (file .entry)) day) (stateOf day rows places (now (opens .entry)) (now (reserves .entry)) (now (helds .entry))) entry (now (log .entry)) at r (now (log .exit)) (now (opens .exit)) (now (reserves .exit)) (now (helds .exit)) ⌝ }
 {
     if log.len() - at < ANSWER_WORDS {
@@ -248,8 +221,6 @@ pub fn step(
                 q,
                 log,
                 at,
-                table,
-                profile,
                 opens,
                 reserves,
                 helds,
@@ -270,16 +241,7 @@ pub fn step(
                 helds,
             )
         }
-        Entry::Play(room) => {
-            let played = step_play(file, c, day, rows, places, room, log, at);
-            let after = played.day;
-            Stepped {
-                done: played.done,
-                next: played.next,
-                day: after,
-                rows,
-            }
-        }
+        Entry::Play(room) => step_play(file, c, day, rows, places, room, log, at),
         Entry::Unknown => step_refused(day, rows, log, at, COMMAND),
     }
 }

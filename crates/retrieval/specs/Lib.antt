@@ -15,7 +15,4 @@ pub mod CarryLaws
 pub mod Minimality
 pub mod ReserveLaws
 pub mod SheetLaws
-pub mod Parts
-pub mod Shown
-pub mod Written
 pub mod Tests

@@ -1,14 +1,16 @@
 -- The just-in-time list is a schedule wherever there is one, and no schedule has less in any round. Assumes nothing.
-use mathlib.Core.Path.{_≡_, refl, sym, ap}
+use mathlib.Core.Path.{_≡_, refl, sym, ap, _∙_}
 use mathlib.Core.Logic.{_↔_}
 use mathlib.Core.Bool.{true}
 use mathlib.Core.List.{List, [], _∷_}
 use Prim.Native.Nat.{ℕ, zero, suc, _+_, _-_, _*_, _≤_, _<_, max, suc-le-suc}
 use native.Mathlib.Nat.{suc-inj, zero-lt-suc, not-suc-le-zero, le-of-suc-le-suc, suc-mul, suc-ne-zero}
 use native.Mathlib.Omega.{arith}
-use borrow.Author.Tests.{leb-true, le-leb}
+use borrow.Author.Tests.{leb-true, le-leb, eqb-true, eq-eqb}
 use lib.ListN.{length, getD}
+use lib.Dec.{eqb}
 use Rattle.laws.specs.Sums.{largest}
+use Rattle.retrieval.specs.Tests.{same-test}
 use Rattle.retrieval.specs.Schedule.{totals, Reads, Schedule, helds}
 use Rattle.retrieval.specs.JustInTime.{due, justInTime, existsBy}
 use Rattle.retrieval.specs.Carry.{carry, profile}
@@ -144,6 +146,12 @@ existsBy-carry b (x ∷ xs) = (
 
 pub existsBy-iff : (b : ℕ) (xs : List ℕ) → (existsBy b xs ≡ true) ↔ ((rs : List ℕ) × Schedule xs b rs)
 existsBy-iff b xs = (λ e. exists-iff b xs .1 (existsBy-carry b xs .0 e), λ v. existsBy-carry b xs .1 (exists-iff b xs .0 v))
+
+-- as the code tests it, where k is the carry
+pub existsBy-test : (b k : ℕ) (xs : List ℕ) → k ≡ carry b xs → eqb k 0 ≡ existsBy b xs
+existsBy-test b k xs q =
+    same-test (eqb k 0) (existsBy b xs) (λ e. existsBy-carry b xs .1 (sym q ∙ eqb-true k 0 e))
+    (λ e. eq-eqb k 0 (q ∙ existsBy-carry b xs .0 e))
 
 -- the carry is at most k exactly if b for each round and k ahead of them are enough up to every round
 pub carry-paced : (b k c : ℕ) (xs : List ℕ) → carry b xs ≤ k

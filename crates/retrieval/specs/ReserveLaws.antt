@@ -3,19 +3,20 @@ use mathlib.Core.Path.{_≡_, refl, sym, _∙_}
 use mathlib.Core.Logic.{_↔_}
 use mathlib.Core.Bool.{Bool, true, false, not, cond, true≢false}
 use mathlib.Core.List.{List}
-use Prim.Native.Nat.{ℕ, zero, suc, _+_, _-_, _*_, _≤_, max}
+use Prim.Native.Nat.{ℕ, zero, suc, _+_, _*_, _≤_, _<_}
 use native.Mathlib.Decide.{decLe}
 use native.Mathlib.Omega.{arith}
-use borrow.Author.Tests.{leb-true, le-leb, eqb-true, eq-eqb}
-use lib.Dec.{leb, eqb}
+use borrow.Author.Tests.{leb-true, le-leb}
+use lib.ListN.{getD}
+use lib.Dec.{leb}
 use Rattle.laws.specs.Tests.{left, right, join}
 use Rattle.laws.specs.Sums.{largest}
-use Rattle.retrieval.specs.Tests.{same-test}
+use Rattle.retrieval.specs.Tests.{same-test, test-false}
 use Rattle.retrieval.specs.Schedule.{sends, Schedule, peak}
 use Rattle.retrieval.specs.JustInTime.{justInTime, existsBy}
 use Rattle.retrieval.specs.LeastReserve.{Serves, Least, servesBy, leastBy, firstFrom, leastReserve}
 use Rattle.retrieval.specs.Carry.{carry, profile}
-use Rattle.retrieval.specs.CarryLaws.{justInTime-helds, prefetch, prefetch-peak, prefetch-largest, carry-mono, peak-mono, large-carry, large-profile, largest-peak}
+use Rattle.retrieval.specs.CarryLaws.{justInTime-helds, prefetch, prefetch-peak, prefetch-largest, carry-mono, peak-mono, large-carry, large-profile, largest-peak, getD-largest}
 use Rattle.retrieval.specs.Minimality.{justInTime-schedule, schedule-carry, reads-peak, existsBy-carry}
 
 -- a schedule with a peak of at most cap exists exactly if the just-in-time one is such
@@ -115,15 +116,20 @@ servesBy-yes r xs cap b e t = servesBy-iff xs cap b .0 (sym e ∙ t)
 pub servesBy-no : (r : Bool) (xs : List ℕ) (cap b : ℕ) → r ≡ servesBy xs cap b → r ≡ false → Serves xs cap b → ⊥
 servesBy-no r xs cap b e f v = true≢false (sym (e ∙ servesBy-iff xs cap b .1 v) ∙ f)
 
--- as the code tests it: no round holds more than the cap, and no more is carried than the pre-fetch rounds read
-pub servesBy-test : (p cap b : ℕ) (xs : List ℕ)
-    → eqb (max (largest (profile b xs) - cap) (carry b xs - p * b)) 0 ≡ servesBy (sends p xs) cap b
-servesBy-test p cap b xs =
+-- as the code tests it: some round holds more than the cap,
+pub servesBy-over : (p cap b t : ℕ) (xs : List ℕ) → cap < getD (profile b xs) t 0 → servesBy (sends p xs) cap b ≡ false
+servesBy-over p cap b t xs h =
+    test-false (servesBy (sends p xs) cap b)
+    (λ e. omega (arith, film-serves xs p cap b .0 (servesBy-iff (sends p xs) cap b .0 e), getD-largest (profile b xs) t))
+
+-- or none does, and c is the carry of the sizes
+pub servesBy-test : (p cap b c : ℕ) (xs : List ℕ) → largest (profile b xs) ≤ cap → c ≡ carry b xs
+    → leb c (p * b) ≡ servesBy (sends p xs) cap b
+servesBy-test p cap b c xs h q =
     let i = servesBy-iff (sends p xs) cap b in
     let f = film-serves xs p cap b in
-    let over = max (largest (profile b xs) - cap) (carry b xs - p * b) in
-    same-test (eqb over 0) (servesBy (sends p xs) cap b) (λ e. i .1 (f .1 (omega (arith, eqb-true over 0 e))))
-    (λ e. eq-eqb over 0 (omega (arith, f .0 (i .0 e))))
+    same-test (leb c (p * b)) (servesBy (sends p xs) cap b) (λ e. i .1 (f .1 (omega (arith, leb-true c (p * b) e))))
+    (λ e. le-leb c (p * b) (omega (arith, f .0 (i .0 e))))
 
 pub leastBy-least : (xs : List ℕ) (cap b : ℕ) → leastBy xs cap b ≡ true → Least xs cap b
 leastBy-least xs cap zero e = record { serves = servesBy-iff xs cap 0 .0 e; least = λ b′ w. omega arith }

@@ -2,7 +2,7 @@
 -- "each film's profile is added to the part of the list that begins at its start".
 use mathlib.Core.Path.{_≡_}
 use mathlib.Core.List.{List, [], _∷_}
-use Prim.Native.Nat.{ℕ, zero, suc, _+_, _-_, _*_, _^_, _≤_, _<_}
+use Prim.Native.Nat.{ℕ, _+_, _^_, _≤_, _<_}
 use lib.ListN.{length, getD, drop}
 use lib.Seq.{slice}
 use Rattle.retrieval.specs.Carry.{carry, profile}
@@ -35,8 +35,3 @@ pub record Adds (part s : List ℕ) (at n p b a e c : ℕ) : Type 0 where
   pub places : e ≤ a + length part
   pub carried : c ≡ carry b (drop e (sendsAt s at n p))
   pub room : Room part (heldIn s at n p b a e)
-
--- what m rounds that send nothing hold, where c is the carry of the rounds after them
-abbrev pub waiting : ℕ → ℕ → ℕ → List ℕ
-waiting b c zero = []
-waiting b c (suc m) = (c - m * b) ∷ waiting b c m

@@ -49,10 +49,6 @@ length-heldIn s at n p b a e h =
     let xs = sendsAt s at n p in
     length-slice a e (profile b xs) (omega (arith, length-profile b xs, length-sendsAt s at n p))
 
--- a round k of the window or its end, as a place of it
-pub place-within : (s : List ℕ) (at n p b a e k : ℕ) → k ≤ e → e ≤ p + n → k - a ≤ length (heldIn s at n p b a e)
-place-within s at n p b a e k h l = omega (arith, length-heldIn s at n p b a e l)
-
 -- the whole profile
 pub heldIn-whole : (s : List ℕ) (at n p b : ℕ) → heldIn s at n p b 0 (p + n) ≡ profile b (sendsAt s at n p)
 heldIn-whole s at n p b =
@@ -138,10 +134,6 @@ ontoFrom zero f s hs = onto f s hs
 ontoFrom (suc k) f [] hs = []
 ontoFrom (suc k) f (x ∷ s) [] = x ∷ s
 ontoFrom (suc k) f (x ∷ s) (h ∷ hs) = x ∷ ontoFrom k f s hs
-
--- hs is added from place k on
-abbrev pub plusFrom : ℕ → List ℕ → List ℕ → List ℕ
-plusFrom k s hs = ontoFrom k (λ x h. x + h) s hs
 
 pub onto-nil : (f : ℕ → ℕ → ℕ) (s : List ℕ) → onto f s [] ≡ s
 onto-nil f [] = refl

@@ -1,5 +1,5 @@
 -- A film where it stands in the file: its sends, round by round. Assumes nothing.
-use mathlib.Core.Path.{_≡_, refl, sym, ap, _∙_}
+use mathlib.Core.Path.{_≡_, refl, ap, _∙_}
 use mathlib.Core.List.{List, [], _∷_}
 use Prim.Native.Nat.{ℕ, zero, suc, _+_, _-_, _*_, _≤_, _<_, max}
 use native.Mathlib.Nat.{not-suc-le-zero, le-of-suc-le-suc}
@@ -66,10 +66,6 @@ pub sends-after : (p : ℕ) (xs : List ℕ) (k : ℕ) → p ≤ k → getD (send
 sends-after zero xs k h = let e : k - 0 ≡ k = omega arith in rw e
 sends-after (suc p) xs zero h = absurd (not-suc-le-zero h)
 sends-after (suc p) xs (suc k) h = let e : suc k - suc p ≡ k - p = omega arith in rw e (sends-after p xs k (le-of-suc-le-suc h))
-
--- a round that shows sends the size at its place
-pub sends-shown : (s : List ℕ) (at n p t : ℕ) → p ≤ t → t < p + n → size s (at + 4 * (t - p)) ≡ getD (sendsAt s at n p) t 0
-sends-shown s at n p t h l = sym (sends-after p (sizes s at n) t h ∙ sizes-at s at n (t - p) (omega arith))
 
 pub length-sendsAt : (s : List ℕ) (at n p : ℕ) → length (sendsAt s at n p) ≡ p + n
 length-sendsAt s at n p = omega (arith, length-sends p (sizes s at n), length-sizes s at n)

@@ -1,10 +1,8 @@
 // A film's just-in-time schedule, where its sizes stand in the file: whether there is one, its peak, what it holds, one round.
-// Each is one pass over the sizes, with no buffer. The film's n sizes stand at offset `at`, p is its pre-fetch rounds
+// Each is one pass backward over the sizes, with no buffer. The film's n sizes stand at offset `at`, p is its pre-fetch rounds
 // and b its reserve in bytes per round; rounds are counted from its start.
-pub mod shown;
-
 ghost use mathlib.Core.Path.{_≡_};
-ghost use Prim.Native.Nat.{_+_, _-_, _*_, _^_, _≤_, _<_, min, max};
+ghost use Prim.Native.Nat.{_+_, _-_, _≤_, _<_, min, max};
 ghost use lib.ListN.{getD, drop};
 ghost use Rattle.limits.specs.Bounds.{maxSize};
 ghost use Rattle.films.specs.Sizes.{Stored};
@@ -12,14 +10,9 @@ ghost use Rattle.retrieval.specs.Schedule.{peak};
 ghost use Rattle.retrieval.specs.JustInTime.{justInTime, existsBy};
 ghost use Rattle.retrieval.specs.Carry.{carry};
 ghost use Rattle.retrieval.specs.Stored.{sendsAt, InRange, maxHeld};
+ghost use Rattle.retrieval.specs.Sheet.{plus, heldIn, Adds};
 ghost use Rattle.retrieval.specs.Round.{roundOf};
 use films::words::size_at;
-use shown::carry_shown;
-use std::num::wrapping_add_u64;
-use std::num::wrapping_sub_u64;
-
-// The sign's bit of a word.
-const SIGN: u64 = 9223372036854775808;
 
 // What one round of a film reads, sends and holds, in bytes.
 pub struct Round {
@@ -60,32 +53,21 @@ pub fn send_at(file: &[u8], at: usize, n: usize, p: usize, t: usize) -> u64
     size_at(file, at + 4 * (t - p))
 }
 
-// The carry before a round that sends x, where c is the carry after it: x + c less b. The test is one of signed numbers, in
-// words that wrap, so that from c to the result there are a subtraction and a move only.
-pub fn carry_before(x: u64, c: u64, b: u64) -> u64
-    requires { ⌜ (x + c < 2 ^ 63) × (b < 2 ^ 63) ⌝ }
-    ensures { λ r. ⌜ r ≡ (x + c) - b ⌝ }
-{
-    let d = wrapping_sub_u64(b, x);
-    if wrapping_add_u64(d, SIGN) < wrapping_add_u64(c, SIGN) {
-        wrapping_sub_u64(c, d)
-    } else {
-        0
-    }
-}
-
 // The carry of the film's rounds from t on: what they leave to be read before round t.
-pub fn carry_from(file: &[u8], at: usize, n: usize, p: usize, b: u64, t: usize) -> u64
+fn carry_from(file: &[u8], at: usize, n: usize, p: usize, b: u64, t: usize) -> u64
     requires { ⌜ (InRange (now file) at n p b) × (t ≤ p + n) ⌝ }
     ensures { λ r. ⌜ (r ≡ carry b (drop t (sendsAt (now (file .entry)) at n p))) × (r ≤ maxHeld) ⌝ }
 {
-    if p <= t {
-        return carry_shown(file, at, n, b, t - p);
+    let mut c: u64 = 0;
+    let mut k = p + n;
+    while t < k {
+        k -= 1;
+        c = less(send_at(file, at, n, p, k) + c, b);
     }
-    less(carry_shown(file, at, n, b, 0), ((p - t) as u64) * b)
+    c
 }
 
-// Does a schedule exist? It does exactly if the rounds leave nothing to be read before the first.
+// Does a schedule exist? It does exactly if nothing is left to be read before round 0.
 pub fn exists(file: &[u8], at: usize, n: usize, p: usize, b: u64) -> bool
     requires { ⌜ InRange (now file) at n p b ⌝ }
     ensures { λ r. ⌜ r ≡ existsBy b (sendsAt (now (file .entry)) at n p) ⌝ }
@@ -103,12 +85,39 @@ pub fn peak(file: &[u8], at: usize, n: usize, p: usize, b: u64) -> u64
     let mut i = n;
     while 0 < i {
         i -= 1;
-        let x = size_at(file, at + 4 * i);
-        let h = x + c;
+        let h = size_at(file, at + 4 * i) + c;
         most = larger(most, h);
-        c = carry_before(x, c, b);
+        c = less(h, b);
     }
     most
+}
+
+// Adds what the film holds in its rounds a to e - 1 to the first places of a lent list, where c is the carry of its rounds from
+// e on. Gives the carry of its rounds from a on, so that a film can be added window by window, the latest first; with a 0,
+// e p + n and c 0 it is added whole.
+pub fn add_held(
+    part: &mut [u64],
+    file: &[u8],
+    at: usize,
+    n: usize,
+    p: usize,
+    b: u64,
+    a: usize,
+    e: usize,
+    c: u64,
+) -> u64
+    requires { ⌜ Adds (now part) (now file) at n p b a e c ⌝ }
+    ensures { λ r. ⌜ (now (part .exit) ≡ plus (now (part .entry)) (heldIn (now (file .entry)) at n p b a e)) × (r ≡ carry b (drop a (sendsAt (now (file .entry)) at n p))) ⌝ }
+{
+    let mut left = c;
+    let mut k = e;
+    while a < k {
+        k -= 1;
+        let h = send_at(file, at, n, p, k) + left;
+        part[k - a] = part[k - a] + h;
+        left = less(h, b);
+    }
+    left
 }
 
 // What the film reads, sends and holds in round t.

@@ -1,4 +1,7 @@
--- The walk through the starts of a booking's window to the first that fits; the definitions are those of `fitting`.
-pub mod Answers
+-- The first start of a booking's window that fits, over streams and the sheet of the standing ones.
+pub mod Fit
+pub mod Search
+pub mod FitLaws
 pub mod WindowLaws
 pub mod StepLaws
+pub mod ProfileLaws

@@ -1,28 +1,25 @@
 -- Laws of the lent lists, whose first T places are the sheet. Assumes nothing.
-use mathlib.Core.Path.{_≡_, refl, sym, ap, ap₂, _∙_}
+use mathlib.Core.Path.{_≡_, sym, ap, ap₂, _∙_}
 use mathlib.Core.Bool.{cond}
 use mathlib.Core.List.{List, [], _∷_, _++_}
 use Prim.Native.Nat.{ℕ, zero, suc, _+_, _-_, _*_, _≤_, _<_}
 use native.Mathlib.Nat.{mul-suc}
 use native.Mathlib.Omega.{arith}
-use lib.ListN.{length, getD, take, drop, replicate, length-append, length-drop}
+use lib.ListN.{length, getD, take, drop, replicate, length-append, length-replicate, length-drop}
 use lib.Seq.{ext-getD, take-at, drop-at, length-take-le, getD-take}
 use Rattle.limits.specs.Bounds.{maxBookings, maxReserve}
 use Rattle.laws.specs.Sums.{largest}
-use Rattle.retrieval.specs.Stored.{maxHeld, held-bound, profile-small}
+use Rattle.retrieval.specs.Stored.{maxHeld, held-bound}
 use Rattle.model.specs.Calls.{perRound, workedOut}
 use Rattle.model.specs.PlacesLaws.{length-perRound, perRound-same}
 use Rattle.model.specs.CodeLaws.{perRound-at}
 use Rattle.load.specs.Stream.{noStream, lengthOf, openIn, profileOf, holdsIn, total, openCount, reservedIn, heldIn}
-use Rattle.load.specs.StreamLaws.{cond-most, total-append}
+use Rattle.load.specs.StreamLaws.{cond-most}
 use Rattle.load.specs.Basic.{Playable, Within, EachOf}
 use Rattle.load.specs.declared.stream.Stream.{Stream}
-use Rattle.windows.specs.Packed.{heldsOf, Settled}
-use Rattle.windows.specs.PackedLaws.{settled-drop}
-use Rattle.windows.specs.declared.packed.Packed.{Packed}
-use Rattle.windows.specs.Parts.{addAt, share}
-use Rattle.sheet.specs.Sheet.{Addable, AddedTo, Places, Laid, Raises, Raised}
-use Rattle.windows.specs.WindowLaws.{length-profileOf}
+use Rattle.sheet.specs.Parts.{addAt, share}
+use Rattle.sheet.specs.Sheet.{Addable, AddedTo, Lists, LaidOn, Places, Lays, Laid, Raises, Raised}
+use Rattle.sheet.specs.FillLaws.{total-append}
 use Rattle.sheet.specs.SheetLaws.{perRound-add, flat-share, held-share}
 
 -- ---- a list's first places by round
@@ -47,13 +44,11 @@ raise T s hs l p g h same e =
 
 -- ---- one more stream
 
-module _ (x : Stream) (hs : List ℕ) (T : ℕ) (opens reserves helds : List ℕ) (g : Raises x hs T opens reserves helds) where
-  pub raises-addable : Addable x hs (take T opens) (take T reserves) (take T helds)
+module _ (f : List ℕ) (x : Stream) (T : ℕ) (opens reserves helds : List ℕ) (g : Raises f x T opens reserves helds) where
+  pub raises-addable : Addable f x (take T opens) (take T reserves) (take T helds)
   raises-addable =
       record {
-        bounded = g .bounded;
-        rounds = g .rounds;
-        most = g .most;
+        stream = g .stream;
         opens-places = omega (arith, length-take-le T opens (g .places .opens-places), g .within);
         reserves-places = omega (arith, length-take-le T reserves (g .places .reserves-places), g .within);
         helds-places = omega (arith, length-take-le T helds (g .places .helds-places), g .within);
@@ -62,8 +57,8 @@ module _ (x : Stream) (hs : List ℕ) (T : ℕ) (opens reserves helds : List ℕ
         helds-room = g .helds-room;
       }
 
-  pub raises-raised : (o r h : List ℕ) → AddedTo x hs (take T opens) (take T reserves) (take T helds) o r h
-      → Raised x hs T opens reserves helds (o ++ drop T opens) (r ++ drop T reserves) (h ++ drop T helds)
+  pub raises-raised : (o r h : List ℕ) → AddedTo f x (take T opens) (take T reserves) (take T helds) o r h
+      → Raised f x T opens reserves helds (o ++ drop T opens) (r ++ drop T reserves) (h ++ drop T helds)
   raises-raised o r h a =
       record {
         films =
@@ -71,7 +66,44 @@ module _ (x : Stream) (hs : List ℕ) (T : ℕ) (opens reserves helds : List ℕ
         reserved =
             raise T (x .start) (replicate (lengthOf x) (x .reserve)) reserves r (λ t. cond (openIn t x) (x .reserve) 0) (g .places .reserves-places)
             (flat-share x (x .reserve)) (a .reserved);
-        held = raise T (x .start) hs helds h (share (x .start) hs) (g .places .helds-places) (λ t. refl) (a .held);
+        held = raise T (x .start) (profileOf f x) helds h (λ t. holdsIn f t x) (g .places .helds-places) (held-share x f) (a .held);
+      }
+
+-- ---- the sheet of a list of streams
+
+take-cleared : (T : ℕ) (l l′ : List ℕ) → l′ ≡ replicate T 0 ++ drop T l → take T l′ ≡ replicate T 0
+take-cleared T l l′ e = ap (take T) e ∙ take-at (replicate T 0) (drop T l) T (length-replicate T zero)
+
+drop-cleared : (T : ℕ) (l l′ : List ℕ) → l′ ≡ replicate T 0 ++ drop T l → drop T l′ ≡ drop T l
+drop-cleared T l l′ e = ap (drop T) e ∙ drop-at (replicate T 0) (drop T l) T (length-replicate T zero)
+
+pub length-cleared : (T : ℕ) (l l′ : List ℕ) → l′ ≡ replicate T 0 ++ drop T l → length (take T l′) ≡ T
+length-cleared T l l′ e = ap length (take-cleared T l l′ e) ∙ length-replicate T zero
+
+module _ (f : List ℕ) (xs : List Stream) (n T : ℕ) (opens reserves helds o r h : List ℕ) (eo : o ≡ replicate T 0 ++ drop T opens) (er : r ≡ replicate T 0 ++ drop T reserves) (eh : h ≡ replicate T 0 ++ drop T helds) where
+  pub lays-lists : Lays f xs n T opens reserves helds → Lists f xs n (take T o) (take T r) (take T h)
+  lays-lists g =
+      let size : length (take T o) ≡ T = length-cleared T opens o eo in
+      let zeros : _≡_ {A = List ℕ} (replicate T 0) (replicate (length (take T o)) 0) = ap (λ (k : ℕ). replicate k 0) (sym size) in
+      record {
+        few = g .few;
+        streams = g .streams;
+        within = λ i u. omega (arith, g .within i u);
+        opens-empty = take-cleared T opens o eo ∙ zeros;
+        reserves-empty = take-cleared T reserves r er ∙ zeros;
+        helds-empty = take-cleared T helds h eh ∙ zeros;
+      }
+
+  pub lays-laid : (p q s : List ℕ) → LaidOn f (take n xs) (length (take T o)) p q s
+      → Laid f (take n xs) T opens reserves helds (p ++ drop T o) (q ++ drop T r) (s ++ drop T h)
+  lays-laid p q s g =
+      let size : length (take T o) ≡ T = length-cleared T opens o eo in
+      let whole : (w : ℕ → ℕ) (l l′ v : List ℕ) → l′ ≡ replicate T 0 ++ drop T l → v ≡ perRound w 0 (length (take T o)) → v ++ drop T l′ ≡ workedOut T w l =
+      λ w l l′ v e d. ap₂ (λ (a b : List ℕ). a ++ b) (d ∙ ap (λ (k : ℕ). perRound w 0 k) size) (drop-cleared T l l′ e) in
+      record {
+        films = whole (λ t. openCount t (take n xs)) opens o p eo (g .films);
+        reserved = whole (λ t. reservedIn t (take n xs)) reserves r q er (g .reserved);
+        held = whole (λ t. heldIn f t (take n xs)) helds h s eh (g .held);
       }
 
 -- ---- for callers: a stream added to a sheet that was laid
@@ -120,7 +152,7 @@ worked-more T g k w l l′ l″ e d f =
 module _ (f : List ℕ) (xs : List Stream) (x : Stream) (T : ℕ) (opens reserves helds o r h : List ℕ) (g : Laid f xs T opens reserves helds o r h) where
   -- the sheet of fewer than 256 streams has room for one more
   pub laid-raises : length xs < maxBookings → EachOf (Playable f) (length xs) xs → Playable f x → Within T x → Places T opens reserves helds
-      → Raises x (profileOf f x) T o r h
+      → Raises f x T o r h
   laid-raises few p px w q =
       let most : (v : ℕ → Stream → ℕ) (m : ℕ) (l l′ : List ℕ) → l′ ≡ workedOut T (λ t. total (v t) xs) l
       → ((t i : ℕ) → i < length xs → v t (getD xs i noStream) ≤ m) → largest (take T l′) ≤ m * length xs =
@@ -131,9 +163,7 @@ module _ (f : List ℕ) (xs : List Stream) (x : Stream) (T : ℕ) (opens reserve
         perRound-most (λ t. total (v t) xs) (m * length xs) 0 T (λ t. total-most (v t) m xs (k t)),
       ) in
       record {
-        bounded = px .bounded;
-        rounds = length-profileOf f x;
-        most = profile-small f (x .at) (x .rounds) (x .prefetch) (x .reserve) (px .stored);
+        stream = px;
         within = w;
         places =
             record {
@@ -165,7 +195,7 @@ module _ (f : List ℕ) (xs : List Stream) (x : Stream) (T : ℕ) (opens reserve
       }
 
   -- and is then the sheet of all of them
-  pub laid-raised : (o′ r′ h′ : List ℕ) → Raised x (profileOf f x) T o r h o′ r′ h′ → Laid f (xs ++ (x ∷ [])) T opens reserves helds o′ r′ h′
+  pub laid-raised : (o′ r′ h′ : List ℕ) → Raised f x T o r h o′ r′ h′ → Laid f (xs ++ (x ∷ [])) T opens reserves helds o′ r′ h′
   laid-raised o′ r′ h′ a =
       let one : (v : Stream → ℕ) → total v xs + v x ≡ total v (xs ++ (x ∷ [])) = λ v. omega (arith, total-append v xs (x ∷ [])) in
       record {
@@ -176,18 +206,6 @@ module _ (f : List ℕ) (xs : List Stream) (x : Stream) (T : ℕ) (opens reserve
             worked-more T (λ t. reservedIn t xs) (λ t. cond (openIn t x) (x .reserve) 0) (λ t. reservedIn t (xs ++ (x ∷ []))) reserves r r′ (g .reserved)
             (a .reserved) (λ t. one (λ y. cond (openIn t y) (y .reserve) 0));
         held =
-            worked-more T (λ t. heldIn f t xs) (share (x .start) (profileOf f x)) (λ t. heldIn f t (xs ++ (x ∷ []))) helds h h′ (g .held) (a .held)
-            (λ t. ap (λ (v : ℕ). heldIn f t xs + v) (held-share x f t) ∙ one (holdsIn f t));
+            worked-more T (λ t. heldIn f t xs) (λ t. holdsIn f t x) (λ t. heldIn f t (xs ++ (x ∷ []))) helds h h′ (g .held) (a .held)
+            (λ t. one (holdsIn f t));
       }
-
--- ---- on a list that was packed
-
--- a sheet laid down on the list with the bytes held alone is one laid down on the list as it was lent
-pub unpacked-laid : (f : List ℕ) (xs : List Stream) (p : Packed) (T : ℕ) (o₀ r₀ before after held o r h : List ℕ) → Settled p T before after
-    → held ≡ heldsOf p after → Laid f xs T o₀ r₀ held o r h → Laid f xs T o₀ r₀ before o r h
-unpacked-laid f xs p T o₀ r₀ before after held o r h g e k =
-    record {
-      films = k .films;
-      reserved = k .reserved;
-      held = k .held ∙ ap (λ (q : List ℕ). perRound (λ t. heldIn f t xs) 0 T ++ q) (ap (drop T) e ∙ settled-drop p T before after g);
-    }

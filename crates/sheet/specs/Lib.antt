@@ -1,5 +1,8 @@
--- The day sheet.
+-- What streams hold, by round.
+pub mod Memory
+pub mod Parts
 pub mod Sheet
+pub mod WindowLaws
+pub mod FillLaws
 pub mod SheetLaws
 pub mod LaidLaws
-pub mod HeldLaws

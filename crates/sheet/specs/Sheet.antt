@@ -9,11 +9,11 @@ use lib.ListN.{length, getD, take, replicate}
 use Rattle.limits.specs.Bounds.{maxBookings, maxReserve}
 use Rattle.laws.specs.Sums.{largest}
 use Rattle.retrieval.specs.Stored.{maxHeld}
-use Rattle.model.specs.Calls.{workedOut}
-use Rattle.load.specs.Stream.{lengthOf, endOf, openIn, openCount, reservedIn, heldIn}
-use Rattle.load.specs.Basic.{Bounded, Playable, Within, EachOf}
+use Rattle.model.specs.Calls.{perRound, workedOut}
+use Rattle.load.specs.Stream.{lengthOf, endOf, openIn, profileOf, holdsIn, openCount, reservedIn, heldIn}
+use Rattle.load.specs.Basic.{Playable, Within, EachOf}
 use Rattle.load.specs.declared.stream.Stream.{Stream}
-use Rattle.windows.specs.Parts.{addAt, share}
+use Rattle.sheet.specs.Parts.{addAt}
 
 -- v can be added to every place
 abbrev pub Below : ℕ → List ℕ → Type 0
@@ -21,11 +21,8 @@ Below v l = largest l + v < 2 ^ 63
 
 -- ---- a stream added to the three lists
 
--- a stream that holds hs in its rounds is to be added to them
-pub record Addable (x : Stream) (hs opens reserves helds : List ℕ) : Type 0 where
-  pub bounded : Bounded x
-  pub rounds : length hs ≡ lengthOf x
-  pub most : largest hs ≤ maxHeld
+pub record Addable (f : List ℕ) (x : Stream) (opens reserves helds : List ℕ) : Type 0 where
+  pub stream : Playable f x
   pub opens-places : endOf x ≤ length opens
   pub reserves-places : endOf x ≤ length reserves
   pub helds-places : endOf x ≤ length helds
@@ -33,13 +30,28 @@ pub record Addable (x : Stream) (hs opens reserves helds : List ℕ) : Type 0 wh
   pub reserves-room : Below maxReserve reserves
   pub helds-room : Below maxHeld helds
 
--- and is
-pub record AddedTo (x : Stream) (hs opens₀ reserves₀ helds₀ opens reserves helds : List ℕ) : Type 0 where
+pub record AddedTo (f : List ℕ) (x : Stream) (opens₀ reserves₀ helds₀ opens reserves helds : List ℕ) : Type 0 where
   pub films : opens ≡ addAt (x .start) (replicate (lengthOf x) 1) opens₀
   pub reserved : reserves ≡ addAt (x .start) (replicate (lengthOf x) (x .reserve)) reserves₀
-  pub held : helds ≡ addAt (x .start) hs helds₀
+  pub held : helds ≡ addAt (x .start) (profileOf f x) helds₀
 
--- ---- the sheet of T rounds, of a list of streams, in lent lists that may be longer
+-- ---- the sheet of T rounds, of a list of streams
+
+-- three empty lists for the first n of xs
+pub record Lists (f : List ℕ) (xs : List Stream) (n : ℕ) (opens reserves helds : List ℕ) : Type 0 where
+  pub few : n ≤ maxBookings
+  pub streams : EachOf (Playable f) n xs
+  pub within : EachOf (Within (length opens)) n xs
+  pub opens-empty : opens ≡ replicate (length opens) 0
+  pub reserves-empty : reserves ≡ replicate (length opens) 0
+  pub helds-empty : helds ≡ replicate (length opens) 0
+
+pub record LaidOn (f : List ℕ) (xs : List Stream) (T : ℕ) (opens reserves helds : List ℕ) : Type 0 where
+  pub films : opens ≡ perRound (λ t. openCount t xs) 0 T
+  pub reserved : reserves ≡ perRound (λ t. reservedIn t xs) 0 T
+  pub held : helds ≡ perRound (λ t. heldIn f t xs) 0 T
+
+-- ---- the lent lists, which may be longer than T
 
 -- each has T places
 pub record Places (T : ℕ) (opens reserves helds : List ℕ) : Type 0 where
@@ -60,11 +72,9 @@ pub record Laid (f : List ℕ) (xs : List Stream) (T : ℕ) (opens₀ reserves�
   pub reserved : reserves ≡ workedOut T (λ t. reservedIn t xs) reserves₀
   pub held : helds ≡ workedOut T (λ t. heldIn f t xs) helds₀
 
--- a stream that holds hs in its rounds is to be added to the sheet, whose first T places have room for it
-pub record Raises (x : Stream) (hs : List ℕ) (T : ℕ) (opens reserves helds : List ℕ) : Type 0 where
-  pub bounded : Bounded x
-  pub rounds : length hs ≡ lengthOf x
-  pub most : largest hs ≤ maxHeld
+-- a stream is to be added to the sheet, whose first T places have room for it
+pub record Raises (f : List ℕ) (x : Stream) (T : ℕ) (opens reserves helds : List ℕ) : Type 0 where
+  pub stream : Playable f x
   pub within : Within T x
   pub places : Places T opens reserves helds
   pub opens-room : Below 1 (take T opens)
@@ -72,7 +82,7 @@ pub record Raises (x : Stream) (hs : List ℕ) (T : ℕ) (opens reserves helds :
   pub helds-room : Below maxHeld (take T helds)
 
 -- and is
-pub record Raised (x : Stream) (hs : List ℕ) (T : ℕ) (opens₀ reserves₀ helds₀ opens reserves helds : List ℕ) : Type 0 where
+pub record Raised (f : List ℕ) (x : Stream) (T : ℕ) (opens₀ reserves₀ helds₀ opens reserves helds : List ℕ) : Type 0 where
   pub films : opens ≡ workedOut T (λ t. getD opens₀ t 0 + cond (openIn t x) 1 0) opens₀
   pub reserved : reserves ≡ workedOut T (λ t. getD reserves₀ t 0 + cond (openIn t x) (x .reserve) 0) reserves₀
-  pub held : helds ≡ workedOut T (λ t. getD helds₀ t 0 + share (x .start) hs t) helds₀
+  pub held : helds ≡ workedOut T (λ t. getD helds₀ t 0 + holdsIn f t x) helds₀

@@ -2,7 +2,7 @@
 use mathlib.Core.Path.{_≡_, refl, sym, ap, _∙_}
 use mathlib.Core.Bool.{cond}
 use mathlib.Core.List.{List, [], _∷_}
-use Prim.Native.Nat.{ℕ, zero, suc, _+_, _-_, _≤_, _<_}
+use Prim.Native.Nat.{ℕ, zero, suc, _+_, _-_, _*_, _≤_, _<_}
 use native.Mathlib.Decide.{decLe}
 use native.Mathlib.Nat.{not-suc-le-zero, le-of-suc-le-suc}
 use native.Mathlib.Numerals.{add-one}
@@ -12,20 +12,22 @@ use lib.Seq.{ext-getD}
 use borrow.Rule.Slice.PartMut.{midOf, putMid}
 use Rattle.laws.specs.Parts.{tail-part, tail-length}
 use Rattle.laws.specs.Sums.{largest}
-use Rattle.retrieval.specs.Stored.{maxHeld, drop-all, length-sendsAt}
+use Rattle.limits.specs.Bounds.{maxBookings, maxReserve}
+use Rattle.retrieval.specs.Stored.{maxHeld, profile-small, drop-all, length-sendsAt}
 use Rattle.retrieval.specs.Sheet.{plus, Adds}
 use Rattle.retrieval.specs.Sheet as retrieval-sheet
-use Rattle.retrieval.specs.SheetLaws.{heldIn-whole, heldIn-small, room-largest, largest-part}
+use Rattle.retrieval.specs.SheetLaws.{heldIn-whole, heldIn-small, room-largest, largest-part, largest-zeros}
 use Rattle.model.specs.Calls.{perRound}
 use Rattle.model.specs.PlacesLaws.{length-perRound, perRound-same}
 use Rattle.model.specs.CodeLaws.{perRound-at}
-use Rattle.load.specs.Stream.{sendsOf, lengthOf, endOf, openIn, profileOf, holdsIn, total, heldIn}
-use Rattle.load.specs.StreamLaws.{open-early, open-late, open-within, total-take}
-use Rattle.load.specs.Basic.{Playable}
+use Rattle.load.specs.Stream.{noStream, sendsOf, lengthOf, endOf, openIn, profileOf, holdsIn, total, heldIn}
+use Rattle.load.specs.StreamLaws.{open-early, open-late, open-within}
+use Rattle.load.specs.Basic.{Playable, Within, EachOf}
 use Rattle.load.specs.declared.stream.Stream.{Stream}
-use Rattle.windows.specs.Parts.{addAt, share, share-before, share-from, length-addAt, addAt-at, addAt-back}
-use Rattle.windows.specs.WindowLaws.{length-profileOf, holds-early, holds-late, holds-within}
-use Rattle.sheet.specs.Sheet.{Below}
+use Rattle.sheet.specs.Parts.{addAt, share, share-before, share-from, length-addAt, addAt-at, addAt-back, largest-addAt}
+use Rattle.sheet.specs.WindowLaws.{length-profileOf, holds-early, holds-late, holds-within}
+use Rattle.sheet.specs.FillLaws.{total-take}
+use Rattle.sheet.specs.Sheet.{Below, Addable, AddedTo, LaidOn}
 
 -- ---- v added to the first places, one by one
 
@@ -152,3 +154,97 @@ tail-added f x helds p e =
     (e
     ∙ ap (λ (hs : List ℕ). plus (midOf (x .start) (length helds - x .start) helds) hs)
     (heldIn-whole f (x .at) (x .rounds) (x .prefetch) (x .reserve)))
+
+-- ---- a sheet laid stream by stream: the first i stand
+
+pub record Laying (f : List ℕ) (xs : List Stream) (n T : ℕ) (opens reserves helds : List ℕ) (i : ℕ) : Type 0 where
+  pub within : i ≤ n
+  pub laid : LaidOn f (take i xs) T opens reserves helds
+  pub opens-length : length opens ≡ T
+  pub reserves-length : length reserves ≡ T
+  pub helds-length : length helds ≡ T
+  pub opens-most : largest opens ≤ i
+  pub reserves-most : largest reserves ≤ maxReserve * i
+  pub helds-most : largest helds ≤ maxHeld * i
+
+pub laying-none : (f : List ℕ) (xs : List Stream) (n T : ℕ) (opens reserves helds : List ℕ) → opens ≡ replicate T 0 → reserves ≡ replicate T 0
+    → helds ≡ replicate T 0 → Laying f xs n T opens reserves helds 0
+laying-none f xs n T opens reserves helds a b c =
+    let z = perRound-zeros 0 T in
+    let l = length-replicate T zero in
+    let m = largest-zeros T in
+    record {
+      within = omega arith;
+      laid = record { films = a ∙ z; reserved = b ∙ z; held = c ∙ z };
+      opens-length = ap length a ∙ l;
+      reserves-length = ap length b ∙ l;
+      helds-length = ap length c ∙ l;
+      opens-most = omega (arith, ap largest a);
+      reserves-most = omega (arith, ap largest b);
+      helds-most = omega (arith, ap largest c);
+    }
+
+largest-replicate : (n v : ℕ) → largest (replicate n v) ≤ v
+largest-replicate zero v = omega arith
+largest-replicate (suc n) v = omega (arith, largest-replicate n v)
+
+module _ (f : List ℕ) (xs : List Stream) (n T : ℕ) (opens reserves helds : List ℕ) (i : ℕ) (h : i < n) (g : Laying f xs n T opens reserves helds i) where
+  -- what adding stream i asks
+  pub laying-asks : n ≤ maxBookings → EachOf (Playable f) n xs → EachOf (Within T) n xs → Addable f (getD xs i noStream) opens reserves helds
+  laying-asks few p w =
+      let e = w i h in
+      record {
+        stream = p i h;
+        opens-places = omega (arith, g .opens-length);
+        reserves-places = omega (arith, g .reserves-length);
+        helds-places = omega (arith, g .helds-length);
+        opens-room = omega (arith, g .opens-most);
+        reserves-room = omega (arith, g .reserves-most);
+        helds-room = omega (arith, g .helds-most);
+      }
+
+  -- and what stands then
+  pub laying-next : (opens′ reserves′ helds′ : List ℕ) → n ≤ length xs → Playable f (getD xs i noStream)
+      → AddedTo f (getD xs i noStream) opens reserves helds opens′ reserves′ helds′ → Laying f xs n T opens′ reserves′ helds′ (i + 1)
+  laying-next opens′ reserves′ helds′ l p a =
+      let x = getD xs i noStream in
+      let flat : List ℕ = replicate (lengthOf x) 1 in
+      let flats = replicate (lengthOf x) (x .reserve) in
+      let j : i < length xs = omega arith in
+      record {
+        within = omega arith;
+        laid =
+            record {
+              films =
+                  perRound-next (x .start) flat (λ t y. cond (openIn t y) 1 0) xs i T noStream opens opens′ j (flat-share x 1) (g .laid .films)
+                  (a .films);
+              reserved =
+                  perRound-next (x .start) flats (λ t y. cond (openIn t y) (y .reserve) 0) xs i T noStream reserves reserves′ j
+                  (flat-share x (x .reserve)) (g .laid .reserved) (a .reserved);
+              held =
+                  perRound-next (x .start) (profileOf f x) (λ t y. holdsIn f t y) xs i T noStream helds helds′ j (held-share x f) (g .laid .held)
+                  (a .held);
+            };
+        opens-length = ap length (a .films) ∙ length-addAt (x .start) flat opens ∙ g .opens-length;
+        reserves-length = ap length (a .reserved) ∙ length-addAt (x .start) flats reserves ∙ g .reserves-length;
+        helds-length = ap length (a .held) ∙ length-addAt (x .start) (profileOf f x) helds ∙ g .helds-length;
+        opens-most =
+            omega (arith, ap largest (a .films), largest-addAt (x .start) flat opens, largest-replicate (lengthOf x) 1, g .opens-most);
+        reserves-most =
+            omega (
+              arith,
+              ap largest (a .reserved),
+              largest-addAt (x .start) flats reserves,
+              largest-replicate (lengthOf x) (x .reserve),
+              p .bounded .reserve,
+              g .reserves-most,
+            );
+        helds-most =
+            omega (
+              arith,
+              ap largest (a .held),
+              largest-addAt (x .start) (profileOf f x) helds,
+              profile-small f (x .at) (x .rounds) (x .prefetch) (x .reserve) (p .stored),
+              g .helds-most,
+            );
+      }

@@ -1,15 +1,16 @@
 -- Writing text after text. Assumes nothing.
 use Prim.Native.Nat.{ℕ, _+_, _-_, _/_, _%_, _^_, _<_, _≤_}
 use mathlib.Core.Path.{_≡_, sym, ap, _∙_}
-use mathlib.Core.List.{List, [], _∷_, _++_, append-assoc, append-nil}
+use mathlib.Core.List.{List, [], _∷_, _++_, append-assoc}
 use native.Mathlib.Numerals.{add-one}
 use native.Mathlib.Omega.{arith}
 use borrow.Author.Tests.{le-leb, lt-leb}
 use lib.ListN.{length, take, drop, set, getD, length-append, length-take, length-drop, take-append-drop}
-use lib.Seq.{set-split, take-append-le, take-take, take-at, drop-at, drop-drop, length-take-le, take-suc}
+use lib.Seq.{set-split, take-at, drop-at, drop-drop, take-suc}
 use Rattle.limits.specs.Bounds.{maxDigits}
-use Rattle.text.specs.Text.{decimal, twoDigits, field}
-use Rattle.text.specs.Digits.{decimal-length, decimal-pairs, field-length}
+use Rattle.commands.specs.Bytes.{digitZero}
+use Rattle.text.specs.Text.{decimal, field}
+use Rattle.text.specs.Digits.{decimal-more, tenth-length, field-length}
 use Rattle.text.specs.Write.{placed, Wrote, maxText, bufferAfter, placeAfter}
 use Rattle.text.specs.declared.Written.the-variants.{Next, NoRoom}
 
@@ -79,78 +80,11 @@ pub word-more : (d : List ℕ) (i : ℕ) (s e : List ℕ) (j k : ℕ) → k < le
 word-more d i s e j k h room w =
     rw (add-one k, take-suc s k 0 h) (wrote-more d i (take k s) e j (getD s k 0) (omega (arith, length-take k s)) w)
 
--- ---- From the end to the front
-
--- a text and the one before it
-pub place-before : (d : List ℕ) (i : ℕ) (u t : List ℕ) → i + length u + length t ≤ length d
-    → placed (placed d (i + length u) t) i u ≡ placed d i (u ++ t)
-unfolding placed
-place-before d i u t h =
-    let n = i + length u in
-    let r = drop (n + length t) d in
-    let size : length (take n d) ≡ n = length-take-le n d (omega arith) in
-    let front : take i (take n d ++ (t ++ r)) ≡ take i d =
-    take-append-le i (take n d) (t ++ r) (omega (arith, size)) ∙ take-take i n d (omega arith) in
-    let back : drop n (take n d ++ (t ++ r)) ≡ t ++ r = drop-at (take n d) (t ++ r) n size in
-    let both : i + length (u ++ t) ≡ n + length t = omega (arith, length-append u t) in
-    rw (front, back, both) (simp append-assoc)
-
--- the last digits of n are written, and those of `rest` are left, up to `place`
-pub record Backward (d : List ℕ) (at n : ℕ) (e : List ℕ) (place rest : ℕ) : Type 0 where
-  pub text : List ℕ
-  pub digits : decimal n ≡ decimal rest ++ text
-  pub buffer : e ≡ placed d place text
-  pub left : place ≡ at + length (decimal rest)
-
-module _ (d : List ℕ) (at n : ℕ) (room : at + maxDigits ≤ length d) where
-  pub backward-none : (place : ℕ) → place ≡ at + length (decimal n) → Backward d at n d place n
-  backward-none place h = record { text = []; digits = sym (append-nil (decimal n)); buffer = place-none d place; left = h }
-
-  module _ (e : List ℕ) (place rest : ℕ) (w : Backward d at n e place rest) where
-    within : place + length (w .text) ≤ length d
-    within = omega (arith, ap length (w .digits), length-append (decimal rest) (w .text), w .left, decimal-length n)
-
-    pub backward-length : length e ≡ length d
-    backward-length = ap length (w .buffer) ∙ place-length d place (w .text) within
-
-    pub backward-place : place ≡ at + length (decimal rest)
-    backward-place = w .left
-
-    -- two digits more
-    module _ (many : 100 ≤ rest) (fits : rest < 2 ^ 64) where
-      shorter : length (decimal rest) ≡ length (decimal (rest / 100)) + 2
-      shorter = ap length (decimal-pairs rest many fits) ∙ length-append (decimal (rest / 100)) (twoDigits (rest % 100))
-
-      pub backward-two : at + 2 ≤ place
-      backward-two = omega (arith, shorter, w .left)
-
-      pub backward-more : (next : ℕ) → next + 2 ≡ place → (f : List ℕ) → f ≡ placed e next (twoDigits (rest % 100)) → Backward d at n f next (rest / 100)
-      backward-more next h f g =
-          let pair = twoDigits (rest % 100) in
-          let here : e ≡ placed d (next + length pair) (w .text) = w .buffer ∙ ap (λ (k : ℕ). placed d k (w .text)) (sym h) in
-          record {
-            text = pair ++ w .text;
-            digits =
-                w .digits
-                ∙ ap (λ (x : List ℕ). x ++ w .text) (decimal-pairs rest many fits)
-                ∙ append-assoc (decimal (rest / 100)) pair (w .text);
-            buffer = g ∙ ap (λ (x : List ℕ). placed x next pair) here ∙ place-before d next pair (w .text) (omega (arith, within));
-            left = omega (arith, shorter, w .left);
-          }
-
-    -- the first digits
-    pub backward-end : (first f : List ℕ) → decimal rest ≡ first → f ≡ placed e at first → (end : ℕ) → end ≡ at + length (decimal n) → Wrote d at (decimal n) f end
-    backward-end first f h g end k =
-        let here : e ≡ placed d (at + length first) (w .text) =
-        w .buffer ∙ ap (λ (i : ℕ). placed d i (w .text)) (w .left ∙ ap (λ (x : List ℕ). at + length x) h) in
-        let whole : decimal n ≡ first ++ w .text = w .digits ∙ ap (λ (x : List ℕ). x ++ w .text) h in
-        record {
-          buffer =
-              g ∙ ap (λ (x : List ℕ). placed x at first) here
-              ∙ place-before d at first (w .text) (omega (arith, within, w .left, ap length h))
-              ∙ ap (placed d at) (sym whole);
-          place = k;
-        }
+-- the last digit after those of the tenth
+pub digits-more : (d : List ℕ) (i n : ℕ) (e : List ℕ) (j : ℕ) → 10 ≤ n → n < 2 ^ 64 → i + maxDigits ≤ length d
+    → Wrote d i (decimal (n / 10)) e j → Wrote d i (decimal n) (set e j (digitZero + n % 10)) (j + 1)
+digits-more d i n e j h f room w =
+    rw (decimal-more n h f) (wrote-more d i (decimal (n / 10)) e j (digitZero + n % 10) (omega (arith, tenth-length n f)) w)
 
 -- ---- A field more
 

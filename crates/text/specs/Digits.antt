@@ -3,8 +3,8 @@
 use Prim.Native.Nat.{ℕ, zero, suc, _+_, _-_, _*_, _/_, _%_, _^_, _<_, _≤_}
 use mathlib.Core.Path.{_≡_, refl, sym, ap, _∙_}
 use mathlib.Core.Bool.{Bool, true, false, cond}
-use mathlib.Core.List.{List, [], _∷_, _++_, append-assoc}
-use native.Mathlib.Nat.{pow-suc, one-le-pow}
+use mathlib.Core.List.{List, [], _∷_, _++_}
+use native.Mathlib.Nat.{pow-suc}
 use native.Mathlib.Decide.{decLt}
 use native.Mathlib.Omega.{arith}
 use lib.Dec.{ltb}
@@ -18,7 +18,7 @@ use Rattle.model.specs.declared.Answer.the-variants.{Refused, Opened, Booked, D
 use Rattle.commands.specs.Bytes.{digitZero}
 use Rattle.commands.specs.Grammar.{isDigit, isNumeral, value}
 use Rattle.commands.specs.Values.{value-append}
-use Rattle.text.specs.Text.{spell, decimal, twoDigits, field, end, noWord, bookedWord, droppedWord, roundWord, answerFields, answerText, lineText, reportText}
+use Rattle.text.specs.Text.{spell, decimal, field, end, noWord, bookedWord, droppedWord, roundWord, answerFields, answerText, lineText, reportText}
 use Rattle.text.specs.Write.{maxText}
 
 -- ---- Digits
@@ -65,34 +65,9 @@ decimal-digit n h = spell-digit 19 n h
 pub decimal-more : (n : ℕ) → 10 ≤ n → n < 2 ^ 64 → decimal n ≡ decimal (n / 10) ++ (digitZero + n % 10) ∷ []
 decimal-more n h f = rw (tenth n f) (spell-more 19 n h)
 
--- a number below a hundred, and one of more digits, by its last two
-pub decimal-pair : (n : ℕ) → 10 ≤ n → n < 100 → decimal n ≡ twoDigits n
-decimal-pair n h f = decimal-more n h (omega arith) ∙ ap (λ (w : List ℕ). w ++ (digitZero + n % 10) ∷ []) (decimal-digit (n / 10) (omega arith))
-
-pub decimal-pairs : (n : ℕ) → 100 ≤ n → n < 2 ^ 64 → decimal n ≡ decimal (n / 100) ++ twoDigits (n % 100)
-decimal-pairs n h f =
-    let hundredth : n / 10 / 10 ≡ n / 100 = omega arith in
-    let before-last : n / 10 % 10 ≡ n % 100 / 10 = omega arith in
-    let last : n % 10 ≡ n % 100 % 10 = omega arith in
-    decimal-more n (omega arith) f
-    ∙ ap (λ (w : List ℕ). w ++ (digitZero + n % 10) ∷ []) (decimal-more (n / 10) (omega arith) (omega arith))
-    ∙ append-assoc (decimal (n / 10 / 10)) ((digitZero + n / 10 % 10) ∷ []) ((digitZero + n % 10) ∷ [])
-    ∙ rw (hundredth, before-last, last)
-
--- a number from a power of ten to the next
-spell-count : (k j n : ℕ) → j < k → 10 ^ j ≤ n → n < 10 ^ suc j → length (spell k n) ≡ suc j
-spell-count zero j n h low high = absurd (omega arith)
-spell-count (suc k) zero n h low high = ap length (spell-digit k n high)
-spell-count (suc k) (suc j) n h low high =
-    let some = one-le-pow j 10 (omega arith) in
-    let many : 10 ≤ n = omega (arith, pow-suc 10 j) in
-    let tenth-low : 10 ^ j ≤ n / 10 = omega (arith, pow-suc 10 j) in
-    let tenth-high : n / 10 < 10 ^ suc j = omega (arith, pow-suc 10 (suc j)) in
-    let rest = spell-count k j (n / 10) (omega arith) tenth-low tenth-high in
-    omega (arith, ap length (spell-more k n many), length-append (spell k (n / 10)) ((digitZero + n % 10) ∷ []), rest)
-
-pub decimal-count : (j n : ℕ) → j < maxDigits → 10 ^ j ≤ n → n < 10 ^ suc j → suc j ≡ length (decimal n)
-decimal-count j n h low high = sym (spell-count maxDigits j n h low high)
+-- the numeral of a tenth leaves room for a digit
+pub tenth-length : (n : ℕ) → n < 2 ^ 64 → length (decimal (n / 10)) < maxDigits
+tenth-length n f = omega (arith, ap length (tenth n f), spell-length 19 (n / 10))
 
 -- ---- A decimal numeral is read back as its number
 

@@ -19,10 +19,6 @@ spell (suc k) n = cond (ltb n 10) ((digitZero + n) ∷ []) (spell k (n / 10) ++ 
 abbrev pub decimal : ℕ → List ℕ
 decimal n = spell maxDigits n
 
--- the two digits of a number below a hundred
-abbrev pub twoDigits : ℕ → List ℕ
-twoDigits n = (digitZero + n / 10) ∷ (digitZero + n % 10) ∷ []
-
 -- a field that is not the first
 abbrev pub field : ℕ → List ℕ
 field n = space ∷ decimal n
@@ -60,10 +56,6 @@ answerFields name round (Played films cabs) = roundWord ++ field round ++ field 
 
 abbrev pub answerText : ℕ → ℕ → Answer → List ℕ
 answerText name round answer = answerFields name round answer ++ end
-
--- the line of these fields
-abbrev pub lineOf : ℕ → ℕ → ℕ → ℕ → Line
-lineOf name read send held = record { name = name; read = read; send = send; held = held }
 
 -- "then name read send held"
 abbrev pub lineText : Line → List ℕ

@@ -1,5 +1,4 @@
 // The output text, written into a lent buffer from a place on.
-use limits::bounds::MAX_DIGITS;
 use model::Answer;
 use model::Line;
 ghost use mathlib.Core.Path.{_≡_};
@@ -7,8 +6,8 @@ ghost use mathlib.Core.List.{_++_};
 ghost use Prim.Native.Nat.{_+_, _*_, _≤_, _<_};
 ghost use lib.ListN.{length};
 ghost use Rattle.limits.specs.Bounds.{maxDigits};
-ghost use Rattle.text.specs.Text.{decimal, twoDigits, field, end, answerFields, answerText, lineOf, lineText};
-ghost use Rattle.text.specs.Write.{placed, Wrote, maxField, maxText, bufferAfter, placeAfter};
+ghost use Rattle.text.specs.Text.{decimal, field, end, answerFields, answerText, lineText};
+ghost use Rattle.text.specs.Write.{Wrote, maxField, maxText, bufferAfter, placeAfter};
 
 // The place after what was written; or the buffer had no room for a line of the longest kind, and nothing was written.
 pub enum Written {
@@ -43,54 +42,18 @@ fn put_end(out: &mut [u8], at: usize) -> usize
     at + 1
 }
 
-// How many digits a number has in base ten.
-fn digit_count(n: u64) -> usize
-    ensures { λ r. ⌜ r ≡ length (decimal n) ⌝ }
-{
-    if n < 10 {
-        return 1;
-    }
-    let mut count = 1;
-    let mut power: u64 = 10;
-    while count < MAX_DIGITS - 1 {
-        let next = power * 10;
-        if n < next {
-            return count + 1;
-        }
-        power = next;
-        count += 1;
-    }
-    MAX_DIGITS
-}
-
-// Writes a number below a hundred as two digits.
-fn put_pair(out: &mut [u8], at: usize, pair: u64)
-    requires { ⌜ (at + 2 ≤ length (now out)) × (pair < 100) ⌝ }
-    ensures { λ _. ⌜ now (out .exit) ≡ placed (now (out .entry)) at (twoDigits pair) ⌝ }
-{
-    out[at] = b'0' + (pair / 10) as u8;
-    out[at + 1] = b'0' + (pair % 10) as u8;
-}
-
-// Writes a number in base ten with no leading zero, from its last digits to its first.
+// Writes a number in base ten with no leading zero.
 fn put_decimal(out: &mut [u8], at: usize, n: u64) -> usize
     requires { ⌜ at + maxDigits ≤ length (now out) ⌝ }
     ensures { λ r. ⌜ Wrote (now (out .entry)) at (decimal n) (now (out .exit)) r ⌝ }
 {
-    let end = at + digit_count(n);
-    let mut place = end;
-    let mut rest = n;
-    while 100 <= rest {
-        place -= 2;
-        put_pair(out, place, rest % 100);
-        rest = rest / 100;
+    if n < 10 {
+        out[at] = b'0' + n as u8;
+        return at + 1;
     }
-    if rest < 10 {
-        out[at] = b'0' + rest as u8;
-        return end;
-    }
-    put_pair(out, at, rest);
-    end
+    let next = put_decimal(out, at, n / 10);
+    out[next] = b'0' + (n % 10) as u8;
+    next + 1
 }
 
 // Writes a space and a number.
@@ -159,23 +122,14 @@ pub fn write_answer(out: &mut [u8], at: usize, name: u32, round: u64, answer: An
 }
 
 // Writes a line of a report but for its end.
-fn put_line(out: &mut [u8], at: usize, name: u64, read: u64, send: u64, held: u64) -> usize
+fn put_line(out: &mut [u8], at: usize, line: Line) -> usize
     requires { ⌜ at + maxText ≤ length (now out) ⌝ }
-    ensures { λ r. ⌜ Wrote (now (out .entry)) at (decimal name ++ field read ++ field send ++ field held) (now (out .exit)) r ⌝ }
+    ensures { λ r. ⌜ Wrote (now (out .entry)) at (decimal (line .name) ++ field (line .read) ++ field (line .send) ++ field (line .held)) (now (out .exit)) r ⌝ }
 {
-    let first = put_decimal(out, at, name);
-    let second = put_field(out, first, read);
-    let third = put_field(out, second, send);
-    put_field(out, third, held)
-}
-
-// Writes the line of a report that has these fields.
-pub fn put_row(out: &mut [u8], at: usize, name: u64, read: u64, send: u64, held: u64) -> usize
-    requires { ⌜ at + maxText ≤ length (now out) ⌝ }
-    ensures { λ r. ⌜ Wrote (now (out .entry)) at (lineText (lineOf name read send held)) (now (out .exit)) r ⌝ }
-{
-    let next = put_line(out, at, name, read, send, held);
-    put_end(out, next)
+    let name = put_decimal(out, at, line.name as u64);
+    let read = put_field(out, name, line.read);
+    let send = put_field(out, read, line.send);
+    put_field(out, send, line.held)
 }
 
 // Writes a line of a report.
@@ -189,5 +143,6 @@ pub fn write_line(out: &mut [u8], at: usize, line: Line) -> Written
     if out.len() - at < MAX_TEXT {
         return Written::NoRoom;
     }
-    Written::Next(put_row(out, at, line.name as u64, line.read, line.send, line.held))
+    let next = put_line(out, at, line);
+    Written::Next(put_end(out, next))
 }

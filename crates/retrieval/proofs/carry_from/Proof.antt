@@ -1,61 +1,78 @@
--- `retrieval::carry_from` meets its contract: the sizes from a place on, or all of them less what the pre-fetch rounds before
--- them read. Assumes nothing.
-use mathlib.Core.Path.{_≡_, sym, ap, _∙_}
-use Prim.Native.Nat.{ℕ, _-_, _*_, _≤_}
-use native.Mathlib.Nat.{mul-le-mul}
+-- `retrieval::carry_from` meets its contract. The invariant: c is the carry of the rounds from k on. The measure is k.
+-- Assumes nothing.
+use mathlib.Core.Path.{_≡_}
+use Prim.Native.Nat.{_≤_, _-_, _+_}
 use native.Mathlib.Omega.{arith}
 use borrow.Author.Needs.{needs}
 use lib.ListN.{drop}
-use Rattle.limits.specs.Bounds.{maxPrefetch}
-use Rattle.films.specs.Sizes.{sizes}
 use Rattle.retrieval.specs.Carry.{carry}
-use Rattle.retrieval.specs.Parts.{carry-shown, carry-ahead}
+use Rattle.retrieval.specs.Stored.{sendsAt, maxHeld, length-sendsAt, drop-all, turn-held, turn-carry, held-bound}
 use Rattle.retrieval.proofs.carry_from.Statement.{statement}
 use Rattle.retrieval.proofs.carry_from.Tie as tie
 
-carry-shown-requires : tie.Need-carry-shown-requires
-carry-shown-requires c κs = search needs
+abbrev Inv-loop : tie.InvT-loop
+Inv-loop file at n p b t c₀ k₀ c k =
+    (t ≤ k) × (k ≤ p + n) × (c ≡ carry b (drop k (sendsAt file at n p))) × (c ≤ maxHeld)
 
-returns : tie.Need-returns
-returns c =
-    let a = c .before .before .before .args in
-    let xs = sizes (a .file .now) (a .at) (a .n) in
-    let rest : c .carry-shown .result ≡ carry (a .b) (drop (a .t - a .p) xs) = c .carry-shown .ensures .0 in
-    omega (arith, carry-shown (a .b) (a .p) (a .t) xs (omega arith))
+abbrev μ-loop : tie.MeasureT-loop
+μ-loop file at n p b t c₀ k₀ c k = k
 
-carry-shown-requires-2 : tie.Need-carry-shown-requires-2
-carry-shown-requires-2 c κs = search needs
+add-k : tie.Need-add-k Inv-loop μ-loop
+add-k c = search needs
 
-sub-less : tie.Need-sub-less
-sub-less c = search needs
+loop-holds : tie.Need-loop-holds Inv-loop μ-loop
+loop-holds c =
+    let a = c .before .args in
+    let xs = sendsAt (a .file .now) (a .at) (a .n) (a .p) in
+    let lx = length-sendsAt (a .file .now) (a .at) (a .n) (a .p) in
+    omega (arith, drop-all xs (a .p + a .n) (a .b) (omega arith))
 
-mul-less : tie.Need-mul-less
-mul-less c =
-    let start = c .before .before .before in
-    let a = start .args in
-    let few : a .p - a .t ≤ maxPrefetch = omega (arith, start .pre .0 .prefetch) in
-    omega (arith, mul-le-mul few (start .pre .0 .reserve))
+sub-k : tie.Need-sub-k Inv-loop μ-loop
+sub-k c = search needs
 
-less-requires : tie.Need-less-requires
+send-at-requires : tie.Need-send-at-requires Inv-loop μ-loop
+send-at-requires c κs = search needs
+
+add-less : tie.Need-add-less Inv-loop μ-loop
+add-less c = search needs
+
+less-requires : tie.Need-less-requires Inv-loop μ-loop
 less-requires c κs = search needs
 
-returns-2 : tie.Need-returns-2
-returns-2 c =
-    let a = c .before .before .before .before .args in
-    let xs = sizes (a .file .now) (a .at) (a .n) in
-    let all : c .before .carry-shown2 .result ≡ carry (a .b) xs = c .before .carry-shown2 .ensures .0 in (
-      c .less .ensures ∙ ap (λ (k : ℕ). k - (a .p - a .t) * a .b) all ∙ sym (carry-ahead (a .b) (a .p) (a .t) xs (omega arith)),
-      omega arith,
-    )
+loop-less : tie.Need-loop-less Inv-loop μ-loop
+loop-less c = search needs
+
+loop-again : tie.Need-loop-again Inv-loop μ-loop
+loop-again c =
+    let start = c .before .before .before .before .before in
+    let a = start .args in
+    let l = c .before .before .before .loop in
+    let x = c .before .send-at in
+    let xs = sendsAt (a .file .now) (a .at) (a .n) (a .p) in
+    let lx = length-sendsAt (a .file .now) (a .at) (a .n) (a .p) in
+    let held = turn-held (a .b) (l .k) (l .c) (x .result) xs (omega arith) (omega arith) (l .inv .2) (x .ensures .0) in
+    let small = held-bound (a .file .now) (a .at) (a .n) (a .p) (a .b) (l .k - 1) (start .pre .0 .stored) in
+    omega (arith, turn-carry (a .b) (l .k) (l .c) (x .result) xs (omega arith) (omega arith) (l .inv .2) (x .ensures .0))
+
+returns : tie.Need-returns Inv-loop μ-loop
+returns c =
+    let l = c .before .loop in
+    let a = c .before .before .before .args in
+    let e : l .k ≡ a .t = omega arith in
+    (rw e at (l .inv .2), omega arith)
 
 pub carry-from-spec : {M : Type 1} → statement M
 carry-from-spec =
     tie.close
     (tie.spec
-    carry-shown-requires
-    returns
-    carry-shown-requires-2
-    sub-less
-    mul-less
+    Inv-loop
+    μ-loop
+    add-k
+    loop-holds
+    sub-k
+    send-at-requires
+    add-less
     less-requires
-    returns-2)
+    loop-less
+    loop-again
+    returns)

@@ -53,11 +53,8 @@ add-h c =
 larger-requires : tie.Need-larger-requires Inv-loop μ-loop
 larger-requires c κs = search needs
 
-carry-before-requires : tie.Need-carry-before-requires Inv-loop μ-loop
-carry-before-requires c κs =
-    let start = c .before .before .before .before .before in
-    let a = start .args in
-    omega (arith, size-small (a .file .now) (a .at) (a .n) (c .before .before .before .loop .i - 1) (start .pre .stored) (omega arith))
+less-requires : tie.Need-less-requires Inv-loop μ-loop
+less-requires c κs = search needs
 
 loop-less : tie.Need-loop-less Inv-loop μ-loop
 loop-less c = search needs
@@ -99,7 +96,7 @@ peak-spec =
     size-at-requires
     add-h
     larger-requires
-    carry-before-requires
+    less-requires
     loop-less
     loop-again
     returns)

@@ -4,7 +4,7 @@ use Prim.Native.Nat.{_-_}
 use native.Mathlib.Omega.{arith}
 use borrow.Author.Needs.{needs}
 use Rattle.films.specs.Sizes.{sizes}
-use Rattle.retrieval.specs.Stored.{size-small, sends-before, sends-shown}
+use Rattle.retrieval.specs.Stored.{sizes-at, size-small, sends-before, sends-after}
 use Rattle.retrieval.proofs.send_at.Statement.{statement}
 use Rattle.retrieval.proofs.send_at.Tie as tie
 
@@ -27,7 +27,8 @@ returns-2 c =
     let start = c .before .before .before in
     let a = start .args in
     let s = a .file .now in (
-      c .size-at .ensures ∙ sends-shown s (a .at) (a .n) (a .p) (a .t) (omega arith) (omega arith),
+      c .size-at .ensures
+          ∙ sym (sends-after (a .p) (sizes s (a .at) (a .n)) (a .t) (omega arith) ∙ sizes-at s (a .at) (a .n) (a .t - a .p) (omega arith)),
       omega (arith, size-small s (a .at) (a .n) (a .t - a .p) (start .pre .0) (omega arith)),
     )
 

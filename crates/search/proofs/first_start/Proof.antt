@@ -1,100 +1,73 @@
--- `search::first_start` meets its contract: the columns of the streams that share a cab tell the same as the streams by definition.
+-- `search::first_start` meets its contract: the profile worked out into zeros tells the same as the profile by definition.
 -- Assumes nothing.
-use borrow.Author.Needs.{needs}
-use Prim.Native.Nat.{ℕ}
-use mathlib.Core.Path.{sym, ap, _∙_}
+use Prim.Native.Nat.{ℕ, _+_, _≤_}
+use mathlib.Core.Path.{ap, subst⁻¹, _∙_}
 use mathlib.Core.Bool.{Bool}
 use mathlib.Core.List.{List}
 use native.Mathlib.Omega.{arith}
+use borrow.Author.Needs.{needs}
 use lib.ListN.{take}
-use lib.Seq.{length-take-le}
+use Rattle.limits.specs.Bounds.{maxPrefetch, maxRounds}
+use Rattle.load.specs.Stream.{lengthOf}
 use Rattle.model.specs.Fit.{firstOf}
-use Rattle.table.specs.Streams.{streams}
-use Rattle.search.specs.Answers.{answerOf}
-use Rattle.fitting.specs.CabLaws.{columns-cut}
-use Rattle.fitting.specs.ProfileLaws.{columns-fit}
+use Rattle.search.specs.Fit.{HeldRows, queryOf, fitsAt, answerOf}
+use Rattle.search.specs.declared.Found.{Found}
+use Rattle.search.specs.ProfileLaws.{adds-zeros, worked-rows, worked-fits}
 use Rattle.search.proofs.first_start.Statement.{statement}
 use Rattle.search.proofs.first_start.Tie as tie
 
-slice-aggregate-fill : tie.Need-slice-aggregate-fill
-slice-aggregate-fill c = search needs
+-- the stream is not longer than the array
+short : (start : tie.Start) → lengthOf (start .args .y) ≤ maxPrefetch + maxRounds
+short start = omega (arith, start .pre .1 .prefetch, start .pre .1 .stored .few)
 
-slice-aggregate-fill-2 : tie.Need-slice-aggregate-fill-2
-slice-aggregate-fill-2 c = search needs
+add-n : tie.Need-add-n
+add-n c = search needs
 
-fill-requires : tie.Need-fill-requires
-fill-requires c κs = search needs
+slice-aggregate-add-held : tie.Need-slice-aggregate-add-held
+slice-aggregate-add-held c = search needs
 
-table-requires : tie.Need-table-requires
-table-requires c κs = search needs
-
-array-share-prefix-shows : tie.Need-array-share-prefix-shows
-array-share-prefix-shows c = search needs
+add-held-requires : tie.Need-add-held-requires
+add-held-requires c κs =
+    let start = c .before .before .before .before .before .before in
+    let a = start .args in
+    adds-zeros (a .file .now) (a .y) (maxPrefetch + maxRounds) (start .pre .1) (short start)
 
 slice-aggregate-first-fit : tie.Need-slice-aggregate-first-fit
-slice-aggregate-first-fit c =
-    let filled = c .before .before .before .before in
-    let fill = filled .fill in
-    let start = filled .before .before .before .before .before .before .before .before in
-    sym (length-take-le (fill .result) (fill .last .1 .1 .1 .0) (omega (arith, fill .ensures .1, fill .ensures .2, start .pre .1)))
-
-array-share-prefix-ends : tie.Need-array-share-prefix-ends
-array-share-prefix-ends c = search needs
-
-slice-aggregate-first-fit-2 : tie.Need-slice-aggregate-first-fit-2
-slice-aggregate-first-fit-2 c =
-    let filled = c .before .before .before .before .before in
-    let fill = filled .fill in
-    let start = filled .before .before .before .before .before .before .before .before in
-    sym (length-take-le (fill .result) (fill .last .1 .1 .1 .1 .0) (omega (arith, fill .ensures .1, fill .ensures .3, start .pre .1)))
-
-slice-aggregate-first-fit-3 : tie.Need-slice-aggregate-first-fit-3
-slice-aggregate-first-fit-3 c = search needs
+slice-aggregate-first-fit c = search needs
 
 first-fit-requires : tie.Need-first-fit-requires
 first-fit-requires c κs =
-    let filled = c .before .before .before .before .before .before in
-    let fill = filled .fill in
-    let start = filled .before .before .before .before .before .before .before .before in
-    let w = start .pre .4 in
-    let first = length-take-le (fill .result) (fill .last .1 .1 .1 .0) (omega (arith, fill .ensures .1, fill .ensures .2, start .pre .1)) in
-    let last = length-take-le (fill .result) (fill .last .1 .1 .1 .1 .0) (omega (arith, fill .ensures .1, fill .ensures .3, start .pre .1)) in
-    record {
-      day = w .day;
-      disk = w .disk;
-      memory = w .memory;
-      own = start .pre .3;
-      reserve = start .pre .2;
-      lost = c .before .before .before .table .ensures;
-      columns = omega (arith, first, last);
-    }
+    let start = c .before .before .before .before .before .before .before .before .before in
+    let a = start .args in
+    let w = start .pre .2 in
+    let rows = worked-rows (a .file .now) (a .y) (maxPrefetch + maxRounds) (start .pre .1) (short start) in (
+      start .pre .0,
+      record {
+        window = record { day = w .day; disk = w .disk; memory = w .memory; standing = w .standing };
+        profile = subst⁻¹ (λ (l : List ℕ). HeldRows l (lengthOf (a .y))) (c .before .before .add-held .ensures .0) rows;
+        reserve = start .pre .1 .reserve;
+      },
+    )
 
 returns : tie.Need-returns
 returns c =
-    let filled = c .before .before .before .before .before .before .before in
-    let fill = filled .fill in
-    let start = filled .before .before .before .before .before .before .before .before in
+    let start = c .before .before .before .before .before .before .before .before .before .before in
     let a = start .args in
-    let xs = take (a .count) (streams (a .table .now)) in
-    let shows : List ℕ = take (fill .result) (fill .last .1 .1 .1 .0) in
-    let ends : List ℕ = take (fill .result) (fill .last .1 .1 .1 .1 .0) in
-    let same = columns-cut xs (a .y) (fill .last .1 .1 .1 .0) (fill .last .1 .1 .1 .1 .0) (fill .result) (omega (arith, fill .ensures .1, fill .ensures .2, start .pre .1)) (fill .ensures .0) in
+    let xs = take (a .count) (a .xs) in
+    let by : List ℕ → Found =
+    λ p. answerOf (firstOf (fitsAt (queryOf (a .y) p xs (a .opens .now) (a .reserves .now) (a .helds .now) (a .disk) (a .memory))) (a .first) (a .last)) in
     c .first-fit .ensures
+    ∙ ap by (c .before .before .before .add-held .ensures .0)
     ∙ ap (λ (g : ℕ → Bool). answerOf (firstOf g (a .first) (a .last)))
-    (columns-fit (a .y) (a .opens .now) (a .reserves .now) (a .helds .now) (a .disk) (a .memory) (a .profile .now) xs shows ends same)
+    (worked-fits (a .file .now) (a .y) (maxPrefetch + maxRounds) (start .pre .1) (short start) xs (a .opens .now) (a .reserves .now) (a .helds .now) (a .disk) (a .memory))
 
 pub first-start-spec : {M : Type 1} → statement M
 first-start-spec =
     tie.close
     (tie.spec
-    slice-aggregate-fill
-    slice-aggregate-fill-2
-    fill-requires
-    table-requires
-    array-share-prefix-shows
+    add-n
+    slice-aggregate-add-held
+    add-held-requires
     slice-aggregate-first-fit
-    array-share-prefix-ends
-    slice-aggregate-first-fit-2
-    slice-aggregate-first-fit-3
     first-fit-requires
     returns)

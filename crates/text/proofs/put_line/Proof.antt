@@ -10,18 +10,21 @@ use Rattle.text.proofs.Writing.{then-wrote, field-end}
 use Rattle.text.proofs.put_line.Statement.{statement}
 use Rattle.text.proofs.put_line.Tie as tie
 
+cast-put-decimal : tie.Need-cast-put-decimal
+cast-put-decimal c = search needs
+
 put-decimal-requires : tie.Need-put-decimal-requires
 put-decimal-requires c κs = search needs
 
 put-field-requires : tie.Need-put-field-requires
 put-field-requires c κs =
-    let line = c .before .before .before .before .before .before .args in
+    let line = c .before .before .before .before .before .before .before .args .line in
     let name = c .before .before .before .put-decimal in
     omega (arith, name .ensures .place, name .kept .0, decimal-length (line .name))
 
 put-field-requires-2 : tie.Need-put-field-requires-2
 put-field-requires-2 c κs =
-    let line = c .before .before .before .before .before .before .before .before .before .before .args in
+    let line = c .before .before .before .before .before .before .before .before .before .before .before .args .line in
     let name = c .before .before .before .before .before .before .before .put-decimal in
     let read = c .before .before .before .put-field in
     omega (
@@ -36,7 +39,7 @@ put-field-requires-2 c κs =
 
 put-field-requires-3 : tie.Need-put-field-requires-3
 put-field-requires-3 c κs =
-    let line = c .before .before .before .before .before .before .before .before .before .before .before .before .before .before .args in
+    let line = c .before .before .before .before .before .before .before .before .before .before .before .before .before .before .before .args .line in
     let name = c .before .before .before .before .before .before .before .before .before .before .before .put-decimal in
     let read = c .before .before .before .before .before .before .before .put-field in
     let send = c .before .before .before .put-field2 in
@@ -58,8 +61,8 @@ same-length c = search needs
 
 returns : tie.Need-returns
 returns c =
-    let args = c .before .before .before .before .before .before .before .before .before .before .before .before .before .before .before .before .before .args in
-    let line = args in
+    let args = c .before .before .before .before .before .before .before .before .before .before .before .before .before .before .before .before .before .before .args in
+    let line = args .line in
     let first : args .at + length (decimal (line .name)) ≤ length (args .out .now) = omega (arith, decimal-length (line .name)) in
     let second : args .at + length (decimal (line .name) ++ field (line .read)) ≤ length (args .out .now) =
     omega (arith, decimal-length (line .name), field-end (decimal (line .name)) (line .read) (args .at)) in
@@ -78,6 +81,7 @@ pub put-line-spec : {M : Type 1} → statement M
 put-line-spec =
     tie.close
     (tie.spec
+    cast-put-decimal
     put-decimal-requires
     put-field-requires
     put-field-requires-2

@@ -1,93 +1,87 @@
--- `films::sizes::small` meets its contract: the sizes before the one whose middle is at a multiple of 16, those from it on up to the
--- last but one, and the last. Assumes nothing.
-use Prim.Native.Nat.{_+_, _-_, _/_, _%_}
-use mathlib.Core.Path.{sym, _∙_}
+-- `films::sizes::small` meets its contract. The invariant: all sizes are within the bound exactly if those from i on are. The
+-- measure is the sizes left. Assumes nothing.
+use Prim.Native.Nat.{_+_, _*_, _-_, _≤_}
+use mathlib.Core.Path.{_≡_, sym, _∙_}
 use native.Mathlib.Omega.{arith}
 use borrow.Author.Needs.{needs}
 use borrow.Author.Tests.{not-true, not-false}
-use Rattle.films.proofs.Laws.{small-split}
+use Rattle.films.specs.Questions.{smallSizes}
+use Rattle.films.proofs.Laws.{small-none, small-next, small-stop}
 use Rattle.films.proofs.sizes.small.Statement.{statement}
 use Rattle.films.proofs.sizes.small.Tie as tie
 
-join-small-requires : tie.Need-join-small-requires
-join-small-requires c κs = search needs
+abbrev Inv-loop : tie.InvT-loop
+Inv-loop file from n i₀ i = (i ≤ n) × (smallSizes file from n ≡ smallSizes file (from + 4 * i) (n - i))
 
-returns : tie.Need-returns
-returns c = search needs
+abbrev μ-loop : tie.MeasureT-loop
+μ-loop file from n i₀ i = n - i
 
-add-first : tie.Need-add-first
-add-first c = search needs
+loop-holds : tie.Need-loop-holds Inv-loop μ-loop
+loop-holds c = let a = c .before .args in (omega arith, small-none (a .file .now) (a .from) (a .n))
 
-sub-first : tie.Need-sub-first
-sub-first c = search needs
+add-loop : tie.Need-add-loop Inv-loop μ-loop
+add-loop c = search needs
 
-sub-last : tie.Need-sub-last
-sub-last c = search needs
+mul-four-small : tie.Need-mul-four-small Inv-loop μ-loop
+mul-four-small c = search needs
 
-join-small-requires-2 : tie.Need-join-small-requires-2
-join-small-requires-2 c κs = search needs
+add-four-small : tie.Need-add-four-small Inv-loop μ-loop
+add-four-small c = search needs
 
-returns-2 : tie.Need-returns-2
-returns-2 c =
-    let a = c .before .before .before .before .args in
-    let first = 3 - (a .from + 1) % 16 / 4 in
-    sym (small-split (a .file .now) (a .from) (a .n) first (omega arith) ∙ rw (sym (c .before .join-small2 .ensures) ∙ not-true _ (c .if2 .taken)))
+four-small-requires : tie.Need-four-small-requires Inv-loop μ-loop
+four-small-requires c κs = search needs
 
-mul-blocks-small : tie.Need-mul-blocks-small
-mul-blocks-small c = search needs
+returns : tie.Need-returns Inv-loop μ-loop
+returns c =
+    let a = c .before .before .before .before .before .args in
+    let l = c .before .before .before .loop in
+    sym (l .inv .1 ∙ small-stop (a .file .now) (a .from) (a .n) (l .i) 4 (omega arith) (sym (c .before .four-small .ensures) ∙ not-true _ (c .if1 .taken)))
 
-add-blocks-small : tie.Need-add-blocks-small
-add-blocks-small c = search needs
+add-i : tie.Need-add-i Inv-loop μ-loop
+add-i c = search needs
 
-sub-blocks-small : tie.Need-sub-blocks-small
-sub-blocks-small c = search needs
+loop-less : tie.Need-loop-less Inv-loop μ-loop
+loop-less c = search needs
 
-blocks-small-requires : tie.Need-blocks-small-requires
-blocks-small-requires c κs = omega (arith, c .before .before .before .before .pre)
+loop-again : tie.Need-loop-again Inv-loop μ-loop
+loop-again c =
+    let a = c .before .before .before .before .before .args in
+    let l = c .before .before .before .loop in
+    let e = sym (c .before .four-small .ensures) ∙ not-false _ (c .if1 .left) in
+    (omega arith, l .inv .1 ∙ small-next (a .file .now) (a .from) (a .n) (l .i) 4 (omega arith) e)
 
-returns-3 : tie.Need-returns-3
-returns-3 c =
-    let a = c .before .before .before .before .before .before .args in
-    let first = 3 - (a .from + 1) % 16 / 4 in
-    sym
-    (small-split (a .file .now) (a .from) (a .n) first (omega arith)
-    ∙ rw (sym (c .before .before .before .join-small2 .ensures) ∙ not-false _ (c .before .before .if2 .left), sym (c .before .blocks-small .ensures) ∙ not-true _ (c .if3 .taken)))
+mul-few-small : tie.Need-mul-few-small Inv-loop μ-loop
+mul-few-small c = search needs
 
-mul-join-small : tie.Need-mul-join-small
-mul-join-small c = search needs
+add-few-small : tie.Need-add-few-small Inv-loop μ-loop
+add-few-small c = search needs
 
-add-join-small : tie.Need-add-join-small
-add-join-small c = search needs
+sub-few-small : tie.Need-sub-few-small Inv-loop μ-loop
+sub-few-small c = search needs
 
-join-small-requires-3 : tie.Need-join-small-requires-3
-join-small-requires-3 c κs = search needs
+few-small-requires : tie.Need-few-small-requires Inv-loop μ-loop
+few-small-requires c κs = search needs
 
-returns-4 : tie.Need-returns-4
-returns-4 c =
-    let a = c .before .before .before .before .before .before .before .args in
-    let first = 3 - (a .from + 1) % 16 / 4 in
-    c .join-small3 .ensures
-    ∙ sym
-    (small-split (a .file .now) (a .from) (a .n) first (omega arith)
-    ∙ rw (sym (c .before .before .before .before .join-small2 .ensures) ∙ not-false _ (c .before .before .before .if2 .left), sym (c .before .before .blocks-small .ensures) ∙ not-false _ (c .before .if3 .left)))
+returns-2 : tie.Need-returns-2 Inv-loop μ-loop
+returns-2 c = c .few-small .ensures ∙ sym (c .before .before .loop .inv .1)
 
 pub small-spec : {M : Type 1} → statement M
 small-spec =
     tie.close
     (tie.spec
-    join-small-requires
+    Inv-loop
+    μ-loop
+    loop-holds
+    add-loop
+    mul-four-small
+    add-four-small
+    four-small-requires
     returns
-    add-first
-    sub-first
-    sub-last
-    join-small-requires-2
-    returns-2
-    mul-blocks-small
-    add-blocks-small
-    sub-blocks-small
-    blocks-small-requires
-    returns-3
-    mul-join-small
-    add-join-small
-    join-small-requires-3
-    returns-4)
+    add-i
+    loop-less
+    loop-again
+    mul-few-small
+    add-few-small
+    sub-few-small
+    few-small-requires
+    returns-2)

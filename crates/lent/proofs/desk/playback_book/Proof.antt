@@ -89,13 +89,13 @@ outcome = record { type = O.the-type; laws = O′.the-laws; plain = O′.the-pla
 
 -- the machine values of the outcome's fields
 abbrev answer-val : Outcome → Val
-answer-val z = outcome .laws .1 .0 .val (outcome .type .to z .1 .0)
+answer-val z = outcome .laws .0 .val (outcome .type .to z .0)
 
 abbrev day-val : Outcome → Val
-day-val z = outcome .laws .1 .1 .0 .val (outcome .type .to z .1 .1 .0)
+day-val z = outcome .laws .1 .0 .val (outcome .type .to z .1 .0)
 
 abbrev rows-val : Outcome → Val
-rows-val z = outcome .laws .0 .val (outcome .type .to z .0)
+rows-val z = outcome .laws .1 .1 .0 .val (outcome .type .to z .1 .1 .0)
 
 abbrev stayed : Stays (f.ended .signature .params) (f.ended .kept)
 stayed = (stay-none-slice (0 ∷ []) tt (plain (λ _. u8)) yes, (stay-none (λ _. R day) yes, (stay-slice (1 ∷ []) tt (plain (λ _. R booking)), (stay-none (λ _. (R request)) yes, (gave-slice (2 ∷ []) tt (plain (λ _. u64)), (gave-slice (3 ∷ []) tt (plain (λ _. u64)), (gave-slice (4 ∷ []) tt (plain (λ _. u64)), tt)))))))
@@ -249,18 +249,18 @@ module _ (κf κe κo κr κh : Lft) (qf qe qo qr qh : Share) (bf of be oe bo oo
           move ! (1 ∷ []) $ split ! $
           move ! (1 ∷ []) $ split ! $
           move ! (5 ∷ []) $ facts ! (R outcome) (Is (R outcome)) (shows 𝓤 H A (R outcome)) z (v ∷ []) (λ is′.
-          let fs = LL.owed (outcome .type) (outcome .laws) z (v ∷ []) is′ in let gr : Is (Arr booking) (z .rows) (rows-val z ∷ []) = rows-is booking (z .rows) (rows-val z ∷ []) (fs .0) in
-          let ga : Is An.the-row (z .answer) (answer-val z ∷ []) = fs .1 .0 in let gd : Is (R day) (z .day) (day-val z ∷ []) = fs .1 .1 .0 in
+          let fs = LL.owed (outcome .type) (outcome .laws) z (v ∷ []) is′ in let gr : Is (Arr booking) (z .rows) (rows-val z ∷ []) = rows-is booking (z .rows) (rows-val z ∷ []) (fs .1 .1 .0) in
+          let ga : Is An.the-row (z .answer) (answer-val z ∷ []) = fs .0 in let gd : Is (R day) (z .day) (day-val z ∷ []) = fs .1 .0 in
           land ! (from ! (stop !)) (init ! 51 refl (LL.lawful (outcome .type) (outcome .laws) 𝓤 H A W .typed z _ is′ .0)) $
           rewrite ! 51 (λ (t : Val). ‵ (fat fullShare (cell outcome) l₁₀ 0 t)) (ap only (tells outcome z (v ∷ []) is′)) refl $
-          assigns ! (of-opd ! (load ! (from ! (fld ! refl (stop !))) (look-in ! 51 (sub ! 0 refl (whole !))))) (from ! (stop !)) (init ! 49 refl (atyped booking 𝓤 H A W (z .rows) (rows-val z) gr)) $
+          assigns ! (of-opd ! (load ! (from ! (fld ! refl (stop !))) (look-in ! 51 (sub ! 2 refl (whole !))))) (from ! (stop !)) (init ! 49 refl (atyped booking 𝓤 H A W (z .rows) (rows-val z) gr)) $
           assigns ! (addr ! (from ! (fld ! refl (hop ! (look-in ! 65 (sub ! 0 refl (whole !))) (stop !))))) (from ! (stop !)) (init ! 23 refl (tt, tt)) $
           assigns ! (agg ! (and-then ! (load ! (from ! (stop !)) (look ! 23 refl)) (and-then ! (load ! (from ! (fld ! refl (stop !))) (look-in ! 65 (sub ! 1 refl (whole !)))) (no-more !)))) (from ! (stop !)) (init ! 21 refl (tt, (tt, (record { fits = rme .0 }, tt)))) $
           move ! (15 ∷ 16 ∷ []) $
           stores 𝓤 H A W mem run κe qe be oe γe ye rme ! fm known-store (z .rows) (rows-val z) gr maxBookings (lit< tt) (λ ν δ. (and-then ! (load ! (from ! (stop !)) (look ! 21 refl)) (and-then ! (load ! (from ! (stop !)) (look ! 49 refl)) (and-then ! (lit ! tt) (no-more !))))) (λ zs v′ e₃ le is″.
           land ! (from ! (stop !)) (init ! 25 refl (nothing-lawful 𝓤 H A W .typed tt _ is″ .0)) $
-          assigns ! (of-opd ! (load ! (from ! (fld ! refl (stop !))) (look-in ! 51 (sub ! 1 refl (whole !))))) (from ! (stop !)) (init ! 47 refl (EL.lawful An.the-type An′.the-laws 𝓤 H A W tt .typed (z .answer) _ ga .0)) $
-          assigns ! (of-opd ! (load ! (from ! (fld ! refl (stop !))) (look-in ! 51 (sub ! 2 refl (whole !))))) (from ! (stop !)) (init ! 45 refl (typed day 𝓤 H A W (z .day) gd)) $
+          assigns ! (of-opd ! (load ! (from ! (fld ! refl (stop !))) (look-in ! 51 (sub ! 0 refl (whole !))))) (from ! (stop !)) (init ! 47 refl (EL.lawful An.the-type An′.the-laws 𝓤 H A W tt .typed (z .answer) _ ga .0)) $
+          assigns ! (of-opd ! (load ! (from ! (fld ! refl (stop !))) (look-in ! 51 (sub ! 1 refl (whole !))))) (from ! (stop !)) (init ! 45 refl (typed day 𝓤 H A W (z .day) gd)) $
           replies 𝓤 H A W mem run (z .answer) (answer-val z) ga (z .day) gd ! fm known-reply (and-then ! (load ! (from ! (stop !)) (look ! 48 refl)) (and-then ! (load ! (from ! (stop !)) (look ! 46 refl)) (no-more !))) (λ r u e₄ gr′.
           land ! (from ! (stop !)) (init ! 71 refl (LL.lawful (reply .type) (reply .laws) 𝓤 H A W .typed r _ gr′ .0)) $
           returns ! (look ! 71 refl) $ forget ! 21 refl $ forget ! 23 refl $ forget ! 25 refl $ forget ! 27 refl $ forget ! 29 refl $ forget ! 31 refl $ forget ! 33 refl $ forget ! 35 refl $ forget ! 37 refl $ forget ! 39 refl $ forget ! 41 refl $ forget ! 43 refl $ forget ! 45 refl $ forget ! 47 refl $ forget ! 49 refl $ forget ! 51 refl $ forget ! 53 refl $ forget ! 55 refl $ forget ! 57 refl $ forget ! 59 refl $ forget ! 61 refl $ forget ! 63 refl $ forget ! 65 refl $ forget ! 67 refl $ forget ! 69 refl $ forget ! 71 refl $

@@ -1,6 +1,5 @@
 -- `planning::schedules::plan` meets its contract: each return is the first "no" of the questions in their order.
 -- Assumes nothing.
-use mathlib.Core.Path.{sym, _∙_}
 use Prim.Native.Nat.{_+_}
 use native.Mathlib.Omega.{arith}
 use borrow.Author.Needs.{needs}
@@ -9,7 +8,6 @@ use Rattle.limits.specs.Refusals.{prefetchBound, reserveBound, noRoom, noSchedu
 use Rattle.films.specs.Sizes.{sizes}
 use Rattle.retrieval.specs.CarryLaws.{length-justInTime}
 use Rattle.retrieval.specs.Stored.{sendsAt, length-sizes, length-sendsAt}
-use Rattle.planning.specs.Existence.{none-exists, film-exists}
 use Rattle.planning.specs.AnswerLaws.{plan-prefetch, plan-reserve, plan-room, plan-none, plan-passes, planned-refused, planned-written}
 use Rattle.planning.proofs.schedules.plan.Statement.{statement}
 use Rattle.planning.proofs.schedules.plan.Tie as tie
@@ -41,55 +39,38 @@ returns-3 c =
     planned-refused xs (a .p) (a .b) out noRoom (omega arith)
     (plan-room xs (a .p) (a .b) (length out) (omega arith) (omega arith) (omega arith))
 
-read-film-requires : tie.Need-read-film-requires
-read-film-requires c κs = search needs
-
-enum-told : tie.Need-enum-told
-enum-told c = search needs
-
-enum-known-read : tie.Need-enum-known-read
-enum-known-read c = search needs
-
-write-totals-requires : tie.Need-write-totals-requires
-write-totals-requires c κs =
-    let start = c .before .before .before .before .before .before .before .before .before .before in
-    let a = start .args in
-    let read = c .before .before .read .given in
-    let xs = sizes (a .file .now) (a .at) (a .n) in (
-      record { stored = start .pre; prefetch = c .before .before .before .before .before .before .before .if1 .left; reserve = c .before .before .before .before .before .before .if2 .left },
-      c .before .before .before .before .before .if3 .left,
-      film-exists (a .b) (a .p) (read .0 .0) (read .0 .1 .0) xs (sym (c .before .before .before .before .read-film .ensures) ∙ read .1) .1,
-    )
-
-add-t17 : tie.Need-add-t17
-add-t17 c = search needs
+exists-requires : tie.Need-exists-requires
+exists-requires c κs = search needs
 
 returns-4 : tie.Need-returns-4
 returns-4 c =
-    let a = c .before .before .before .before .before .before .before .before .args in
+    let a = c .before .before .before .before .before .before .before .args in
     let xs = sizes (a .file .now) (a .at) (a .n) in
     let out = a .out .now in
     let lx = length-sizes (a .file .now) (a .at) (a .n) in
     planned-refused xs (a .p) (a .b) out noSchedule (omega arith)
-    (plan-none xs (a .p) (a .b) (length out) (c .before .before .before .before .before .if1 .left) (c .before .before .before .before .if2 .left) (omega arith)
-    (none-exists (a .b) (a .p) xs (sym (c .before .before .read-film .ensures) ∙ c .enum-told .given .1)))
+    (plan-none xs (a .p) (a .b) (length out) (omega arith) (omega arith) (c .before .exists .result) (omega arith) (c .before .exists .ensures) (c .if4 .taken))
+
+write-totals-requires : tie.Need-write-totals-requires
+write-totals-requires c κs = search needs
+
+add-t9 : tie.Need-add-t9
+add-t9 c = search needs
 
 same-length : tie.Need-same-length
 same-length c = search needs
 
 returns-5 : tie.Need-returns-5
 returns-5 c =
-    let a = c .before .before .before .before .before .before .before .before .before .before .before .before .before .args in
+    let a = c .before .before .before .before .before .before .before .before .before .before .before .args in
+    let found = c .before .before .before .before .before in
     let s = a .file .now in
     let xs = sizes s (a .at) (a .n) in
-    let sent = sendsAt s (a .at) (a .n) (a .p) in
     let out = a .out .now in
     let lx = length-sizes s (a .at) (a .n) in
-    let read = c .before .before .before .before .before .read .given in
     planned-written xs (a .p) (a .b) out (c .before .before .write-totals .last .0) (a .p + a .n)
-    (plan-passes xs (a .p) (a .b) (length out) (c .before .before .before .before .before .before .before .before .before .before .if1 .left) (c .before .before .before .before .before .before .before .before .before .if2 .left) (omega (arith, c .before .before .before .before .before .before .before .before .if3 .left))
-    (film-exists (a .b) (a .p) (read .0 .0) (read .0 .1 .0) xs (sym (c .before .before .before .before .before .before .before .read-film .ensures) ∙ read .1) .0))
-    (length-justInTime (a .b) 0 sent ∙ length-sendsAt s (a .at) (a .n) (a .p))
+    (plan-passes xs (a .p) (a .b) (length out) (omega arith) (omega arith) (found .exists .result) (omega arith) (found .exists .ensures) (c .before .before .before .before .if4 .left))
+    (omega (arith, length-justInTime (a .b) 0 (sendsAt s (a .at) (a .n) (a .p)), length-sendsAt s (a .at) (a .n) (a .p)))
     (c .before .before .write-totals .ensures)
 
 pub plan-spec : {M : Type 1} → statement M
@@ -100,11 +81,9 @@ plan-spec =
     returns-2
     add-if3
     returns-3
-    read-film-requires
-    enum-told
-    enum-known-read
-    write-totals-requires
-    add-t17
+    exists-requires
     returns-4
+    write-totals-requires
+    add-t9
     same-length
     returns-5)

@@ -12,9 +12,9 @@ use Rattle.films.specs.Catalogue.{catalogue-verdict}
 use Rattle.films.specs.declared.types.Catalogue.{Catalogue}
 use Rattle.model.specs.Code.{stateOf}
 use Rattle.questions.specs.Given.{settingAt}
-use Rattle.replay.specs.Pictured.{pictured-between, pictured-sheet, between-asks, between-plays}
+use Rattle.replay.specs.Pictured.{between-asks, between-plays}
 use Rattle.replay.specs.StepLaws.{no-room, file-steps, refused-steps}
-use Rattle.journal.specs.declared.Entry.the-variants.{Unknown}
+use Rattle.replay.specs.declared.journal.Entry.the-variants.{Unknown}
 use Rattle.replay.proofs.step.step.Statement.{statement}
 use Rattle.replay.proofs.step.step.Tie as tie
 
@@ -23,7 +23,7 @@ sub-if1 c = search needs
 
 returns : tie.Need-returns
 returns c =
-    let start = c .before .before .before .before .before .before .before .before in
+    let start = c .before .before .before .before .before .before in
     let a = start .args in
     no-room (settingAt (a .file .now) (a .day)) (stateOf (a .day) (a .rows) (a .places) (a .opens .now) (a .reserves .now) (a .helds .now)) (a .entry)
     (a .log .now) (a .at) _ _ _ _ _ (c .if1 .taken) refl refl refl refl refl
@@ -40,13 +40,13 @@ same-length c = search needs
 returns-2 : tie.Need-returns-2
 returns-2 c =
     let called = c .before .before in
-    let test = c .before .before .before .before .before in
-    let start = c .before .before .before .before .before .before .before .before .before .before .before .before .before .before in
+    let test = called .before .before .before in
+    let start = test .before .before .before .before .before .before .before in
     let a = start .args in
     let is : verdict (a .file .now) ≡ a .c .verdict = sym (ap (λ (x : Catalogue). x .verdict) (start .pre .1) ∙ catalogue-verdict (a .file .now)) in
     let room : a .at + 3 ≤ length (a .log .now) = omega (arith, test .before .if1 .left, start .pre .0) in
     file-steps (settingAt (a .file .now) (a .day)) (stateOf (a .day) (a .rows) (a .places) (a .opens .now) (a .reserves .now) (a .helds .now)) (a .entry) (a .c .verdict)
-    (c .before .before .before .refusal-of .result) is (test .if2 .taken) (c .before .before .before .refusal-of .ensures) (a .log .now) (a .at) _ (called .step-refused .last .1 .1 .0) room
+    (called .before .refusal-of .result) is (test .if2 .taken) (called .before .refusal-of .ensures) (a .log .now) (a .at) _ (called .step-refused .last .1 .1 .0) room
     (called .step-refused .ensures)
 
 enum-known-entry : tie.Need-enum-known-entry
@@ -54,19 +54,11 @@ enum-known-entry c = search needs
 
 step-book-requires : tie.Need-step-book-requires
 step-book-requires c κs =
-    let test = c .before .before .before .before .before .before .before .before .before in
-    let start = c .before .before .before .before .before .before .before .before .before .before .before .before .before .before .before .before .before .before in
+    let test = c .before .before .before .before .before .before .before in
+    let start = test .before .before .before .before .before .before .before in
     let a = start .args in
     let accepted : verdict (a .file .now) ≡ 0 = sym (ap (λ (x : Catalogue). x .verdict) (start .pre .1) ∙ catalogue-verdict (a .file .now)) ∙ test .if2 .left in
-    let S = settingAt (a .file .now) (a .day) in
-    let d = stateOf (a .day) (a .rows) (a .places) (a .opens .now) (a .reserves .now) (a .helds .now) in (
-      omega (arith, test .before .if1 .left, start .pre .0),
-      start .pre .1,
-      between-asks (a .file .now) (a .day) (a .rows) (a .places) (a .opens .now) (a .reserves .now) (a .helds .now) accepted (pictured-between S d (start .pre .2)),
-      pictured-sheet S d (start .pre .2),
-      start .pre .3,
-      start .pre .4,
-    )
+    (omega (arith, test .before .if1 .left, start .pre .0), start .pre .1, between-asks (a .file .now) (a .day) (a .rows) (a .places) (a .opens .now) (a .reserves .now) (a .helds .now) accepted (start .pre .2))
 
 enum-known-entry-2 : tie.Need-enum-known-entry-2
 enum-known-entry-2 c = search needs
@@ -74,16 +66,10 @@ enum-known-entry-2 c = search needs
 step-drop-requires : tie.Need-step-drop-requires
 step-drop-requires c κs =
     let test = c .before .before .before .before .before .before .before in
-    let start = c .before .before .before .before .before .before .before .before .before .before .before .before .before .before .before .before in
+    let start = test .before .before .before .before .before .before .before in
     let a = start .args in
     let accepted : verdict (a .file .now) ≡ 0 = sym (ap (λ (x : Catalogue). x .verdict) (start .pre .1) ∙ catalogue-verdict (a .file .now)) ∙ test .if2 .left in
-    let S = settingAt (a .file .now) (a .day) in
-    let d = stateOf (a .day) (a .rows) (a .places) (a .opens .now) (a .reserves .now) (a .helds .now) in (
-      omega (arith, test .before .if1 .left, start .pre .0),
-      start .pre .1,
-      between-asks (a .file .now) (a .day) (a .rows) (a .places) (a .opens .now) (a .reserves .now) (a .helds .now) accepted (pictured-between S d (start .pre .2)),
-      pictured-sheet S d (start .pre .2),
-    )
+    (omega (arith, test .before .if1 .left, start .pre .0), start .pre .1, between-asks (a .file .now) (a .day) (a .rows) (a .places) (a .opens .now) (a .reserves .now) (a .helds .now) accepted (start .pre .2))
 
 enum-known-entry-3 : tie.Need-enum-known-entry-3
 enum-known-entry-3 c = search needs
@@ -91,11 +77,10 @@ enum-known-entry-3 c = search needs
 step-play-requires : tie.Need-step-play-requires
 step-play-requires c κs =
     let test = c .before .before .before .before in
-    let start = c .before .before .before .before .before .before .before .before .before .before .before .before .before in
+    let start = test .before .before .before .before .before .before .before in
     let a = start .args in
     let accepted : verdict (a .file .now) ≡ 0 = sym (ap (λ (x : Catalogue). x .verdict) (start .pre .1) ∙ catalogue-verdict (a .file .now)) ∙ test .if2 .left in
-    let between = pictured-between (settingAt (a .file .now) (a .day)) (stateOf (a .day) (a .rows) (a .places) (a .opens .now) (a .reserves .now) (a .helds .now)) (start .pre .2) in
-    (omega (arith, test .before .if1 .left, start .pre .0), start .pre .1, between-plays (a .file .now) (a .day) (a .rows) (a .places) (a .opens .now) (a .reserves .now) (a .helds .now) accepted between)
+    (omega (arith, test .before .if1 .left, start .pre .0), start .pre .1, between-plays (a .file .now) (a .day) (a .rows) (a .places) (a .opens .now) (a .reserves .now) (a .helds .now) accepted (start .pre .2))
 
 enum-told : tie.Need-enum-told
 enum-told c = search needs
@@ -115,14 +100,14 @@ same-length-4 c = search needs
 same-length-5 : tie.Need-same-length-5
 same-length-5 c = search needs
 
+returns-3 : tie.Need-returns-3
+returns-3 c = let called = c .before .before .before .before .before .before .before .before in rw (called .before .before .before .before .before .before .entry .given .1) (called .step-book .ensures)
+
 same-length-6 : tie.Need-same-length-6
 same-length-6 c = search needs
 
 same-length-7 : tie.Need-same-length-7
 same-length-7 c = search needs
-
-returns-3 : tie.Need-returns-3
-returns-3 c = rw (c .before .before .before .before .before .before .before .before .before .before .before .before .before .before .before .before .before .before .before .before .entry .given .1) (c .before .before .before .before .before .before .before .before .before .before .before .before .step-book .ensures)
 
 same-length-8 : tie.Need-same-length-8
 same-length-8 c = search needs
@@ -130,34 +115,29 @@ same-length-8 c = search needs
 same-length-9 : tie.Need-same-length-9
 same-length-9 c = search needs
 
+returns-4 : tie.Need-returns-4
+returns-4 c = let called = c .before .before .before .before .before .before .before .before in rw (called .before .before .before .before .before .before .entry2 .given .1) (called .step-drop .ensures)
+
 same-length-10 : tie.Need-same-length-10
 same-length-10 c = search needs
+
+returns-5 : tie.Need-returns-5
+returns-5 c =
+    let called = c .before .before in
+    let a = called .before .before .before .before .before .before .before .before .before .before .before .before .args in
+    rw (called .before .before .before .entry3 .given .1) (called .step-play .ensures (a .opens .now) (a .reserves .now) (a .helds .now))
 
 same-length-11 : tie.Need-same-length-11
 same-length-11 c = search needs
 
-returns-4 : tie.Need-returns-4
-returns-4 c = rw (c .before .before .before .before .before .before .before .before .before .before .before .before .before .before .entry2 .given .1) (c .before .before .before .before .before .before .before .before .step-drop .ensures)
-
-same-length-12 : tie.Need-same-length-12
-same-length-12 c = search needs
-
-returns-5 : tie.Need-returns-5
-returns-5 c =
-    let a = c .before .before .before .before .before .before .before .before .before .before .before .before .before .before .before .before .before .args in
-    rw (c .before .before .before .before .before .before .entry3 .given .1) (c .before .before .before .step-play .ensures (a .opens .now) (a .reserves .now) (a .helds .now))
-
-same-length-13 : tie.Need-same-length-13
-same-length-13 c = search needs
-
 returns-6 : tie.Need-returns-6
 returns-6 c =
     let called = c .before .before in
-    let test = c .before .before .before .before .before .before in
-    let start = c .before .before .before .before .before .before .before .before .before .before .before .before .before .before .before in
+    let test = called .before .before .before .before in
+    let start = test .before .before .before .before .before .before .before in
     let a = start .args in
     let room : a .at + 3 ≤ length (a .log .now) = omega (arith, test .before .if1 .left, start .pre .0) in
-    rw (c .before .before .before .before .enum-told .given .1)
+    rw (called .before .before .enum-told .given .1)
     (refused-steps (settingAt (a .file .now) (a .day)) (stateOf (a .day) (a .rows) (a .places) (a .opens .now) (a .reserves .now) (a .helds .now)) Unknown commandForm [] refl
     (a .log .now) (a .at) _ (called .step-refused2 .last .1 .1 .0) room (called .step-refused2 .ensures))
 
@@ -183,15 +163,13 @@ step-spec =
     same-length-3
     same-length-4
     same-length-5
+    returns-3
     same-length-6
     same-length-7
-    returns-3
     same-length-8
     same-length-9
-    same-length-10
-    same-length-11
     returns-4
-    same-length-12
+    same-length-10
     returns-5
-    same-length-13
+    same-length-11
     returns-6)

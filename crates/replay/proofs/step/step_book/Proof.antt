@@ -7,8 +7,8 @@ use Rattle.replay.specs.StepLaws.{booked-steps}
 use Rattle.replay.proofs.step.step_book.Statement.{statement}
 use Rattle.replay.proofs.step.step_book.Tie as tie
 
-book-kept-requires : tie.Need-book-kept-requires
-book-kept-requires c κs = search needs
+book-standing-requires : tie.Need-book-standing-requires
+book-standing-requires c κs = search needs
 
 write-answer-requires : tie.Need-write-answer-requires
 write-answer-requires c κs = search needs
@@ -25,33 +25,25 @@ same-length-3 c = search needs
 same-length-4 : tie.Need-same-length-4
 same-length-4 c = search needs
 
-same-length-5 : tie.Need-same-length-5
-same-length-5 c = search needs
-
-same-length-6 : tie.Need-same-length-6
-same-length-6 c = search needs
-
 returns : tie.Need-returns
 returns c =
-    let wrote = c .before .before .before .before in
-    let called = c .before .before .before .before .before .before .before .before .before .before .before .before .before .before .before .before in
-    let start = c .before .before .before .before .before .before .before .before .before .before .before .before .before .before .before .before .before .before .before .before .before .before .before .before .before .before .before .before .before in
+    let wrote = c .before .before in
+    let called = wrote .before .before .before .before .before .before .before .before .before .before in
+    let start = called .before .before .before .before .before .before .before .before .before in
     let a = start .args in
-    let after = called .book-kept .last .1 .1 .1 .1 .1 .1 .1 .1 in
+    let after = called .book-standing .last .1 .1 .1 .1 .1 .1 in
     booked-steps (settingAt (a .file .now) (a .day)) (stateOf (a .day) (a .rows) (a .places) (a .opens .now) (a .reserves .now) (a .helds .now)) (a .q)
-    (a .log .now) (a .at) _ (wrote .write-answer .last .0) (after .0) (after .1 .0) (after .1 .1 .0) (called .book-kept .result .answer) (start .pre .0) refl
-    (called .book-kept .ensures) (wrote .write-answer .ensures)
+    (a .log .now) (a .at) _ (wrote .write-answer .last .0) (after .0) (after .1 .0) (after .1 .1 .0) (called .book-standing .result .answer) (start .pre .0) refl
+    (called .book-standing .ensures) (wrote .write-answer .ensures)
 
 pub step-book-spec : {M : Type 1} → statement M
 step-book-spec =
     tie.close
     (tie.spec
-    book-kept-requires
+    book-standing-requires
     write-answer-requires
     same-length
     same-length-2
     same-length-3
     same-length-4
-    same-length-5
-    same-length-6
     returns)

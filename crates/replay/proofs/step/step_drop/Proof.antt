@@ -7,8 +7,8 @@ use Rattle.replay.specs.StepLaws.{dropped-steps}
 use Rattle.replay.proofs.step.step_drop.Statement.{statement}
 use Rattle.replay.proofs.step.step_drop.Tie as tie
 
-drop-kept-requires : tie.Need-drop-kept-requires
-drop-kept-requires c κs = search needs
+drop-standing-requires : tie.Need-drop-standing-requires
+drop-standing-requires c κs = search needs
 
 write-answer-requires : tie.Need-write-answer-requires
 write-answer-requires c κs = search needs
@@ -27,20 +27,20 @@ same-length-4 c = search needs
 
 returns : tie.Need-returns
 returns c =
-    let wrote = c .before .before .before .before in
-    let called = wrote .before .before .before .before .before .before .before .before in
+    let wrote = c .before .before in
+    let called = wrote .before .before .before .before .before .before .before .before .before .before in
     let start = called .before .before .before .before .before .before .before .before .before in
     let a = start .args in
-    let after = called .drop-kept .last .1 .1 .1 .1 .1 .1 in
+    let after = called .drop-standing .last .1 .1 .1 .1 .1 .1 in
     dropped-steps (settingAt (a .file .now) (a .day)) (stateOf (a .day) (a .rows) (a .places) (a .opens .now) (a .reserves .now) (a .helds .now)) (a .name)
-    (a .log .now) (a .at) _ (wrote .write-answer .last .0) (after .0) (after .1 .0) (after .1 .1 .0) (called .drop-kept .result) (start .pre .0) refl refl refl
-    (called .drop-kept .ensures) (wrote .write-answer .ensures)
+    (a .log .now) (a .at) _ (wrote .write-answer .last .0) (after .0) (after .1 .0) (after .1 .1 .0) (called .drop-standing .result) (start .pre .0) refl refl refl
+    (called .drop-standing .ensures) (wrote .write-answer .ensures)
 
 pub step-drop-spec : {M : Type 1} → statement M
 step-drop-spec =
     tie.close
     (tie.spec
-    drop-kept-requires
+    drop-standing-requires
     write-answer-requires
     same-length
     same-length-2

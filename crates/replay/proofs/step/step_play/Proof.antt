@@ -5,8 +5,8 @@ use native.Mathlib.Omega.{arith}
 use lib.ListN.{length}
 use borrow.Author.Needs.{needs}
 use Rattle.playing.specs.Contract.{linesIn}
-use Rattle.journal.specs.Log.{answerWords}
-use Rattle.journal.specs.Writing.{wrote-length}
+use Rattle.replay.specs.Log.{answerWords}
+use Rattle.replay.specs.Writing.{wrote-length}
 use Rattle.replay.specs.StepLaws.{answer-length, lines-there, play-full, play-done}
 use Rattle.replay.proofs.step.step_play.Statement.{statement}
 use Rattle.replay.proofs.step.step_play.Tie as tie

@@ -1,2 +1,0 @@
--- The table of a day's bookings, written row by row.
-pub mod KeptLaws

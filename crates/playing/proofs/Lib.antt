@@ -1,2 +1,0 @@
--- What the types of the parameters tell.
-pub mod Narrow
