@@ -4,7 +4,6 @@
 
 pub mod Session
 pub mod Contract
-pub mod Input
 pub mod PlainSession
 -- ---- The claim of every session, and document 01's own
 
@@ -16,7 +15,6 @@ pub mod Laws
 pub mod Writing
 pub mod Carrying
 pub mod Stepping
-pub mod InputLaws
 -- ---- Laws that the claim rests on
 
 pub mod PlainParts

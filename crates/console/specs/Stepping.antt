@@ -19,7 +19,7 @@ use Rattle.console.specs.Laws.{told}
 use Rattle.console.specs.declared.calls.Carried.{Carried}
 
 -- a text placed at the front
-placed-front : (buffer text : List ℕ) → placed buffer 0 text ≡ inFront text buffer
+pub placed-front : (buffer text : List ℕ) → placed buffer 0 text ≡ inFront text buffer
 unfolding placed
 placed-front buffer text = let e : 0 + length text ≡ length text = omega arith in rw e
 

@@ -29,7 +29,7 @@ fn line_count(answer: Answer) -> u64
 }
 
 // Writes an answer's line to the front of `out`. Gives the place after it.
-fn write_first(out: &mut [u8], name: u32, round: u64, answer: Answer) -> usize
+pub fn write_first(out: &mut [u8], name: u32, round: u64, answer: Answer) -> usize
     requires { ⌜ maxText ≤ length (now out) ⌝ }
     ensures { λ r. ⌜ Wrote (now (out .entry)) 0 (answerText name round answer) (now (out .exit)) r ⌝ }
 {

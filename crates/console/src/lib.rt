@@ -1,8 +1,6 @@
 // One command of a session: it is carried out on the day, and its answer is written as text.
 pub mod answer;
 pub mod calls;
-pub mod input;
-pub mod serve;
 
 use answer::write_reply;
 use calls::carry_out;

@@ -1,20 +1,15 @@
 // The program: films.bin, then the commands of standard input, each answered at once on standard output.
 use console::OUTPUT_BYTES;
 use console::Session;
-use console::serve::serve_end;
-use console::serve::serve_line;
-use films::catalogue::verdict;
 use io::write_all;
 use libc::STDIN_FILENO;
 use libc::STDOUT_FILENO;
 use limits::bounds::HALL_FILE;
 use limits::bounds::HALL_ROUNDS;
-use limits::refusals::FILE_SIZE;
 use lines::Splitter;
-use model::Answer;
-use text::MAX_TEXT;
-use text::Written;
-use text::write_answer;
+use program::begin;
+use program::serve_end;
+use program::serve_line;
 ghost use Prim.Native.Nat.{_≤_};
 ghost use lib.ListN.{length};
 ghost use Rattle.io.specs.Counts.{Counts};
@@ -44,16 +39,6 @@ fn front(bytes: &[u8], length: usize) -> usize
 fn print(out: &[u8], length: usize) {
     let n = front(out, length);
     write_all(STDOUT_FILENO, &out[..n]);
-}
-
-// Prints the refusal of the film file.
-fn refuse(number: u32) {
-    let mut out = [0u8; MAX_TEXT];
-    let written = write_answer(&mut out, 0, 0, 0, Answer::Refused(number));
-    match written {
-        Written::Next(next) => print(&out, next),
-        Written::NoRoom => {}
-    }
 }
 
 // Reads a file until it ends or the buffer is full, and gives how many bytes it put there. A file that cannot be read to its
@@ -177,26 +162,21 @@ fn serve(file: &[u8], opens: &mut [u64], reserves: &mut [u64], helds: &mut [u64]
     print(out, stepped.length);
 }
 
-// Serves a session with this film file, whose sheet is the program's.
+// Runs the program with this film file, whose sheet is the program's. A refused file ends it.
 fn run(file: &[u8]) {
     let mut opens = [0u64; HALL_ROUNDS];
     let mut reserves = [0u64; HALL_ROUNDS];
     let mut helds = [0u64; HALL_ROUNDS];
     let mut out = [0u8; OUTPUT_BYTES];
-    serve(file, &mut opens, &mut reserves, &mut helds, &mut out);
+    let begun = begin(file, &mut out);
+    print(&out, begun.length);
+    if begun.accepted {
+        serve(file, &mut opens, &mut reserves, &mut helds, &mut out);
+    }
 }
 
 fn main() {
     let mut bytes = [0u8; FILE_BUFFER];
     let n = read_films(&mut bytes);
-    if HALL_FILE < n {
-        refuse(FILE_SIZE);
-        return;
-    }
-    let number = verdict(&bytes[..n]);
-    if number != 0 {
-        refuse(number);
-        return;
-    }
     run(&bytes[..n]);
 }

@@ -1,4 +1,6 @@
--- The lines of an input.
+-- The lines of an input, and the splitter that finds them in bytes as they come.
 pub mod Lines
-pub mod Splits
+pub mod Feeding
 pub mod Session
+pub mod Splits
+pub mod FeedingLaws

@@ -4,6 +4,7 @@ use commands::parse;
 use limits::bounds::MAX_LINE;
 ghost use mathlib.Core.Path.{_≡_};
 ghost use Rattle.lines.specs.Lines.{started, continued, fed, heldOf, commandHeld};
+ghost use Rattle.lines.specs.Feeding.{Feeds};
 
 // The line that is being read: its first 200 bytes, how many of these are there, and whether it is longer. `ended` says that
 // the line is complete, and that the next byte begins another one.
@@ -56,6 +57,31 @@ pub fn feed(s: Splitter, byte: u8) -> Splitter
     }
     line.over = true;
     line
+}
+
+// The splitter after some bytes, and the place of the next one.
+pub struct Fed {
+    pub splitter: Splitter,
+    pub next: usize,
+}
+
+// Feeds bytes from a place on, up to the end of a line or of the bytes.
+pub fn feed_line(s: Splitter, bytes: &[u8], from: usize) -> Fed
+    ensures { λ r. ⌜ Feeds s (now (bytes .entry)) from r ⌝ }
+{
+    if bytes.len() <= from {
+        return Fed {
+            splitter: s,
+            next: from,
+        };
+    }
+    let mut splitter = feed(s, bytes[from]);
+    let mut next = from + 1;
+    while next < bytes.len() && !splitter.ended {
+        splitter = feed(splitter, bytes[next]);
+        next += 1;
+    }
+    Fed { splitter, next }
 }
 
 // The command that the line held is, or Bad; a line of more than 200 bytes is none.

@@ -1,5 +1,5 @@
 // Carries out a script of sessions of the program, by the program's own splitter, grammar, calls and text.
-mod program;
+mod session;
 
 ghost use Prim.Native.Nat.{_<_, _≤_};
 ghost use lib.ListN.{length};
@@ -9,7 +9,6 @@ use io::write_all;
 use libc::STDIN_FILENO;
 use libc::STDOUT_FILENO;
 use limits::bounds::HALL_ROUNDS;
-use program::Running;
 use script::buffer;
 use script::buffer::BUFFER;
 use script::buffer::file_length;
@@ -18,6 +17,7 @@ use script::operands::after;
 use script::operands::u8_at;
 use script::operands::u16_at;
 use script::operands::u32_at;
+use session::Running;
 
 // opcodes
 const BEGIN: u64 = 16;
@@ -64,7 +64,7 @@ fn feed(
     }
     let from = at + 3;
     let bytes = &script[from..next];
-    program::feed(file, running, bytes, opens, reserves, helds, out)
+    session::feed(file, running, bytes, opens, reserves, helds, out)
 }
 
 // Carries out a session's operation between two positions.
@@ -82,9 +82,9 @@ fn serve(
     requires { ⌜ (at < next) × (next ≤ length (now script)) ⌝ }
 {
     match u8_at(script, at, 0) {
-        BEGIN => program::begin(file),
+        BEGIN => session::begin(file, out),
         FEED => feed(script, at, next, file, running, opens, reserves, helds, out),
-        REPEAT => program::repeat(
+        REPEAT => session::repeat(
             file,
             running,
             u8_at(script, at, 5) as u8,
@@ -95,7 +95,7 @@ fn serve(
             out,
         ),
         _ => {
-            program::end(file, running, opens, reserves, helds, out);
+            session::end(file, running, opens, reserves, helds, out);
             write_all(STDOUT_FILENO, b"END\n");
             running
         }
@@ -151,7 +151,7 @@ fn carry_out_all(
     out: &mut [u8],
 ) {
     let mut case = Case {
-        running: program::begun(false),
+        running: session::begun(false),
         length: 0,
     };
     let mut at = 0;
