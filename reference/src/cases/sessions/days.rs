@@ -1,9 +1,7 @@
-//! Days before they are opened, opened, refused, played to the end, and full; and the film files that the program begins with.
+//! Days before they are opened, opened, refused, played to the end, and full.
 
-use super::{document, film};
 use crate::cases::script::Script;
-use crate::console::{LIST_PLACES, MAX_FILE, SHEET_ROUNDS};
-use crate::film_file::{encode, Film};
+use crate::console::{LIST_PLACES, SHEET_ROUNDS};
 use std::fmt::Write;
 
 /// Before OPEN, after a refused one, opened again, and played to its end and beyond.
@@ -54,40 +52,12 @@ pub fn shift_changes(script: &mut Script) {
     }
 }
 
-/// 64 bookings, the last place of the list, and one more.
-pub fn full_list(script: &mut Script) {
+/// 64 bookings of film 1, the last place of the list, and one more; then drops, and bookings in the places freed.
+pub fn full_list() -> String {
     let mut input = "OPEN 1024 2000000 9000\n".to_string();
     for name in 0..=LIST_PLACES {
         writeln!(input, "BOOK {name} 1 1 6 {} 0 900", 1_u64 << (name % 64)).expect("text");
     }
     input += "PLAY\nPLAY\nDROP 63\nDROP 0\nPLAY\nBOOK 90 1 1 6 1 3 900\nBOOK 91 1 1 6 1 3 900\nBOOK 92 1 1 6 1 3 900\nPLAY\n";
-    input += &"PLAY\n".repeat(9);
-    script.session(&input);
-}
-
-/// Films.bin of every kind: empty, refused, as long as may be and longer. The input is not read then.
-pub fn files(script: &mut Script) {
-    let commands = "OPEN 20 200000 60\nBOOK 1 1 1 6 1 0 0\nPLAY\n";
-    let (file, _) = document();
-    script.len(0).session(commands);
-    script.file(&file).len(1).session(commands);
-    script.len(file.len() - 1).session(commands);
-    script.len(file.len() + 1).session(commands);
-    script.len(file.len()).session(commands).session("");
-    script.poke(0, 0).session(commands).poke(0, 1);
-    // The longest legal file, films of 4,096 rounds and a last one of fewer: 65,534 bytes. Then 65,535, 65,536, 65,537.
-    let rounds = [4_096, 4_096, 4_096, 4_090];
-    let films: Vec<Film> = (1..=4)
-        .map(|number| film(number, &[3].repeat(rounds[usize::from(number) - 1])))
-        .collect();
-    let longest = encode(&films);
-    assert!(longest.len() <= MAX_FILE && longest.len() + 4 > MAX_FILE);
-    script
-        .put(0, &longest[..26])
-        .copy(22, 26, MAX_FILE + 1 - 26);
-    script.len(longest.len()).session(commands);
-    for length in longest.len() + 1..=MAX_FILE + 1 {
-        script.len(length).session(commands);
-    }
-    script.len(1_048_839).session(commands);
+    input + &"PLAY\n".repeat(9)
 }

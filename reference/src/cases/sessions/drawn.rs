@@ -1,12 +1,9 @@
-//! Drawn sessions, hostile ones and legal ones.
+//! Drawn sessions: hostile ones, legal ones, and both in pieces.
 
-use super::film;
+use super::{draw, film};
 use crate::cases::random::Random;
 use crate::cases::script::Script;
-use crate::film_file::{encode, Film};
-use crate::loss::loss;
-use crate::schedule::{sends, smallest_reserve};
-use std::fmt::Write;
+use crate::film_file::encode;
 
 /// Sessions of drawn bytes, of drawn words, and drawn sessions with a byte changed here and there.
 pub fn hostile_sessions(script: &mut Script, random: &mut Random) {
@@ -52,7 +49,7 @@ pub fn hostile_sessions(script: &mut Script, random: &mut Random) {
     }
     for _ in 0..80 {
         let films = [film(1, &[8, 8, 8, 2, 6, 4])];
-        let mut bytes = drawn_session(random, &films, 8).into_bytes();
+        let mut bytes = draw::day(random, &films, 8).into_bytes();
         for _ in 0..1 + random.below(4) {
             let position = random.below(bytes.len() as u64) as usize;
             bytes[position] = random.pick(b" \n\r0159OPEND\0x");
@@ -64,54 +61,37 @@ pub fn hostile_sessions(script: &mut Script, random: &mut Random) {
 /// Drawn sessions on drawn films.
 pub fn drawn_sessions(script: &mut Script, random: &mut Random) {
     for _ in 0..24 {
-        let films: Vec<Film> = (0..=random.below(3) as u16)
-            .map(|number| {
-                let heavy = random.pick(&[2, 9, 100, 70_000]);
-                let sizes = (0..=random.below(9)).map(|_| random.below(heavy) as u32);
-                film(number * 3 + 1, &sizes.collect::<Vec<u32>>())
-            })
-            .collect();
+        let films = draw::films(random);
         script.file(&encode(&films));
         for _ in 0..6 {
-            script.session(&drawn_session(random, &films, 16));
+            script.session(&draw::day(random, &films, 16));
         }
     }
 }
 
-/// A day and some commands, mostly legal.
-fn drawn_session(random: &mut Random, films: &[Film], commands: u64) -> String {
-    let sizes = films.iter().flat_map(|film| &film.sizes);
-    let unit = sizes.max().map_or(1, |&size| u64::from(size) + 1);
-    let rounds = 10 + random.below(40);
-    let disk = loss(1 + random.below(4)) + unit + random.below(4 * unit);
-    let mut input = format!("OPEN {rounds} {disk} {}\n", unit + random.below(6 * unit));
-    for _ in 0..commands {
-        match random.below(10) {
-            0..=5 => {
-                let film = &films[random.below(films.len() as u64) as usize];
-                let prefetch = random.below(4);
-                let sends = sends(prefetch, &film.sizes);
-                let cap = unit + random.below(2 * unit);
-                let least = smallest_reserve(&sends, cap);
-                let reserve = random.pick(&[least, least, least + 1, least.saturating_sub(1)]);
-                let space = (rounds + 1).saturating_sub(sends.len() as u64);
-                let first = random.below(space + 1);
-                let last = first + random.below((space - first).max(1));
-                let name = random.below(8);
-                let number = film.number;
-                let cabs = 1 + random.below(7);
-                writeln!(
-                    input,
-                    "BOOK {name} {number} {prefetch} {reserve} {cabs} {first} {last}"
-                )
-                .expect("text");
-            }
-            6 => writeln!(input, "DROP {}", random.below(8)).expect("text"),
-            _ => input += "PLAY\n",
+/// Inputs of every kind of line, read in pieces of drawn lengths. Longer ones would take up the script.
+pub fn sessions_in_pieces(script: &mut Script, random: &mut Random) {
+    for _ in 0..30 {
+        let films = draw::films(random);
+        let input = draw::input(random, &films, 8);
+        if input.len() > 1_000 {
+            continue;
         }
+        script.file(&encode(&films)).begin();
+        for piece in draw::pieces(random, &input) {
+            script.feed(piece);
+        }
+        script.end();
     }
-    if random.once_in(3) {
-        input.pop();
+}
+
+/// Lines that are no commands, of every form, each before a command.
+pub fn no_commands(script: &mut Script, random: &mut Random) {
+    for _ in 0..8 {
+        script.begin().feed(b"OPEN 9 200000 50\n");
+        for _ in 0..12 {
+            script.feed(&draw::no_command(random)).feed(b"\nDROP 7\n");
+        }
+        script.end();
     }
-    input
 }

@@ -1,8 +1,13 @@
 //! Sessions of the program `hall`: what it prints for a film file and an input of any kind.
 
 mod days;
+pub mod draw;
 mod drawn;
+mod files;
 mod lines;
+
+pub use days::full_list;
+pub use files::{longest_file, refused_files};
 
 use super::file_buffer::FileBuffer;
 use super::random::Random;
@@ -14,6 +19,9 @@ const BEGIN: u8 = 16;
 const FEED: u8 = 17;
 const REPEAT: u8 = 18;
 const END: u8 = 19;
+
+/// Bytes that are all the same from which on a script has them as one REPEAT.
+const LONG_RUN: usize = 64;
 
 /// The line that the test program prints at the end of a session.
 const MARK: &str = "END\n";
@@ -50,7 +58,21 @@ impl Script {
         self.u8(BEGIN)
     }
 
+    /// FEED, and REPEAT for a long run of one byte.
     fn feed(&mut self, input: &[u8]) -> &mut Script {
+        let mut short = Vec::new();
+        for run in input.chunk_by(|byte, next| byte == next) {
+            if run.len() < LONG_RUN {
+                short.extend(run);
+            } else {
+                self.feed_short(&short).repeat(run.len() as u32, run[0]);
+                short.clear();
+            }
+        }
+        self.feed_short(&short)
+    }
+
+    fn feed_short(&mut self, input: &[u8]) -> &mut Script {
         for part in input.chunks(65_535) {
             self.u8(FEED).u16(part.len() as u16).text(part);
         }
@@ -92,10 +114,12 @@ pub fn script() -> Vec<u8> {
     lines::numbers_at_their_bounds(&mut script);
     days::days(&mut script);
     days::shift_changes(&mut script);
-    days::full_list(&mut script);
+    script.session(&full_list());
     drawn::hostile_sessions(&mut script, &mut random);
+    drawn::no_commands(&mut script, &mut random);
     drawn::drawn_sessions(&mut script, &mut random);
-    days::files(&mut script);
+    drawn::sessions_in_pieces(&mut script, &mut random);
+    files::files(&mut script);
     script.bytes
 }
 
