@@ -1,15 +1,34 @@
 # make test: the gate, as .ci/run runs it. make demo: the session of document 01. make run FILMS=films.bin < commands: one's own.
-.PHONY: test demo run fmt lib archive examples differential
+.PHONY: test demo run film-file sessions fmt lib archive examples differential
 
 FILMS ?= films.bin
 HALL := target/bin/hall
+
+# The folder of what cargo builds.
+CARGO := CARGO_TARGET_DIR=$(CURDIR)/target/cargo cargo
+
+# A crate of the repository, and those on its line without the kit's libraries.
+crates_of = $(1) $(filter-out io libc os,$(shell sed -n 's/^$(1)://p' crates.txt))
+sources_of = $(foreach crate,$(call crates_of,$(1)),$(wildcard crates/$(crate)/src/*.rt))
+
+# $(call proved,CRATE,COMMANDS): runs commands of rt that prove a crate and those on its line, which takes minutes from nothing. Counts
+# them on standard error as rt says that they are proved, and shows all that it said if the commands fail. What rt leaves as it was, as
+# its sources are the same though newer, is newer too then.
+define proved
+@rm -f target/$(1).status && echo "$(1): proving $(words $(call crates_of,$(1))) crates" >&2
+@{ { $(2); } 2>&1; echo $$? > target/$(1).status; } | tee target/$(1).log | sed -un 's/^rt: \([a-z0-9_]*\) proved.*/\1/p' | { \
+	n=0 seen=; while read -r crate; do case "$$seen " in *" $$crate "*) ;; *) seen="$$seen $$crate" n=$$((n + 1)); \
+	echo "proved crate $$n of $(words $(call crates_of,$(1))): $$crate" >&2 ;; esac; done; }
+@[ "$$(cat target/$(1).status)" = 0 ] || { cat target/$(1).log; exit 1; }
+@touch -c $@
+endef
 
 test:
 	@.ci/run
 
 # built anew when a source of hall, or of a crate on its line, is newer
-$(HALL): $(foreach crate,hall $(shell sed -n 's/^hall://p' crates.txt),$(wildcard crates/$(crate)/src/*.rt)) | target
-	@rt check hall > target/hall.log 2>&1 || { cat target/hall.log; exit 1; }
+$(HALL): $(call sources_of,hall) | target
+	$(call proved,hall,rt check hall)
 
 demo: $(HALL)
 	@rm -rf target/demo && mkdir -p target/demo && cp crates/hall/data/films.bin target/demo/
@@ -18,8 +37,18 @@ demo: $(HALL)
 		(cd target/demo && ../bin/hall < input > output); \
 		tail -n +$$((before + 1)) target/demo/output; done < crates/hall/stdin
 
-run: $(HALL)
+# Asked first, since building takes minutes. The program itself takes a missing file for an empty one.
+film-file:
+	@[ -f "$(FILMS)" ] || { echo "make run: there is no film file $(FILMS); FILMS=file names another" >&2; exit 1; }
+
+run: film-file $(HALL)
 	@rm -rf target/run && mkdir -p target/run && cp "$(FILMS)" target/run/films.bin && cd target/run && ../bin/hall
+
+# make sessions: drawn sessions of the program itself against the second implementation, 200 of a seed from the clock.
+# SEED=1 is the gate's.
+SESSIONS ?= 200
+sessions: $(HALL)
+	@$(CARGO) run -q --release --manifest-path reference/Cargo.toml --bin drive -- $(HALL) $(SESSIONS) $(SEED)
 
 target:
 	@mkdir -p target
@@ -33,16 +62,14 @@ fmt:
 PLAYBACK_LIB_DIR ?= $(CURDIR)/target/staticlib
 export PLAYBACK_LIB_DIR
 ARCHIVE := $(PLAYBACK_LIB_DIR)/liblent.a
-CARGO := CARGO_TARGET_DIR=$(CURDIR)/target/cargo cargo
-LENT := lent $(shell sed -n 's/^lent://p' crates.txt)
 
 # make lib: target/staticlib/liblent.a, proved anew.
 lib: | target
 	@rt staticlib lent
 
 # rt staticlib proves one crate after the other, rt check those that do not need each other at a time.
-$(CURDIR)/target/staticlib/liblent.a: $(foreach crate,$(LENT),$(wildcard crates/$(crate)/src/*.rt)) | target
-	@{ rt check interface && rt staticlib lent; } > target/lib.log 2>&1 || { cat target/lib.log; exit 1; }
+$(CURDIR)/target/staticlib/liblent.a: $(call sources_of,lent) | target
+	$(call proved,lent,rt check interface && rt staticlib lent)
 
 archive: $(ARCHIVE)
 
