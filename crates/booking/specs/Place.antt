@@ -19,8 +19,8 @@ use Rattle.load.specs.Stream.{noStream, lengthOf, openIn, holdsIn, profileOf, o
 use Rattle.load.specs.StreamLaws.{cond-most}
 use Rattle.load.specs.Basic.{Playable, EachOf}
 use Rattle.load.specs.declared.stream.Stream.{Stream}
-use Rattle.sheet.specs.Sheet.{Laid, Places}
-use Rattle.sheet.specs.LaidLaws.{total-most, worked-at, length-worked}
+use Rattle.rounds.specs.Sheet.{Places, DaySheet}
+use Rattle.rounds.specs.DaySheetLaws.{total-most, worked-at, length-worked}
 use Rattle.search.specs.Fit.{queryOf, Window}
 
 -- ---- a film of an accepted file has a 16-bit number
@@ -38,39 +38,39 @@ film-small f b e k h =
     let o = accepts f b .0 e in
     each-small (o .films) k (o .valid .each) (rw (films-of f o) at h)
 
--- ---- what the search asks, of a sheet that is laid
+-- ---- what the search asks, of a day's sheet
 
-module _ (f : List ℕ) (xs : List Stream) (T : ℕ) (o₀ r₀ h₀ o r h : List ℕ) (laid : Laid f xs T o₀ r₀ h₀ o r h) (few : length xs < maxBookings)
+module _ (f : List ℕ) (xs : List Stream) (T : ℕ) (o₀ r₀ h₀ o r h : List ℕ) (summed : DaySheet f xs T o₀ r₀ h₀ o r h) (few : length xs < maxBookings)
     (good : EachOf (Playable f) (length xs) xs) (places : Places T o₀ r₀ h₀) (small : T ≤ maxDay) where
-  pub laid-window : (y : Stream) (p : List ℕ) (D M last : ℕ) → last + lengthOf y ≤ T → Window (queryOf y p xs o r h D M) last
-  laid-window y p D M last k =
+  pub sheet-window : (y : Stream) (p : List ℕ) (D M last : ℕ) → last + lengthOf y ≤ T → Window (queryOf y p xs o r h D M) last
+  sheet-window y p D M last k =
       record {
         day = omega arith;
         disk =
             record {
-              opens-long = omega (arith, length-worked T (λ t. openCount t xs) o₀ o (laid .films) (places .opens-places), places .opens-places);
-              reserves-long = omega (arith, length-worked T (λ t. reservedIn t xs) r₀ r (laid .reserved) (places .reserves-places), places .reserves-places);
+              opens-long = omega (arith, length-worked T (λ t. openCount t xs) o₀ o (summed .films) (places .opens-places), places .opens-places);
+              reserves-long = omega (arith, length-worked T (λ t. reservedIn t xs) r₀ r (summed .reserved) (places .reserves-places), places .reserves-places);
               opens-small = λ t u.
                   omega (
                     arith,
-                    worked-at T (λ s. openCount s xs) o₀ o (laid .films) t (omega arith),
+                    worked-at T (λ s. openCount s xs) o₀ o (summed .films) t (omega arith),
                     total-most (λ x. cond (openIn t x) 1 0) 1 xs (λ i v. cond-most (openIn t (getD xs i noStream)) 1 1 (omega arith)),
                   );
               reserves-small = λ t u.
                   omega (
                     arith,
-                    worked-at T (λ s. reservedIn s xs) r₀ r (laid .reserved) t (omega arith),
+                    worked-at T (λ s. reservedIn s xs) r₀ r (summed .reserved) t (omega arith),
                     total-most (λ x. cond (openIn t x) (x .reserve) 0) maxReserve xs
                         (λ i v. cond-most (openIn t (getD xs i noStream)) (getD xs i noStream .reserve) maxReserve (good i v .bounded .reserve)),
                   );
             };
         memory =
             record {
-              long = omega (arith, length-worked T (λ t. heldIn f t xs) h₀ h (laid .held) (places .helds-places), places .helds-places);
+              long = omega (arith, length-worked T (λ t. heldIn f t xs) h₀ h (summed .held) (places .helds-places), places .helds-places);
               small = λ t u.
                   omega (
                     arith,
-                    worked-at T (λ s. heldIn f s xs) h₀ h (laid .held) t (omega arith),
+                    worked-at T (λ s. heldIn f s xs) h₀ h (summed .held) t (omega arith),
                     total-most (holdsIn f t) maxHeld xs
                         (λ i v.
                         let x = getD xs i noStream in

@@ -27,12 +27,13 @@ use Rattle.model.specs.declared.Booking.{Booking}
 use Rattle.model.specs.declared.Request.{Request}
 use Rattle.model.specs.declared.Day.{Day}
 use Rattle.model.specs.declared.Answer.the-variants.{Refused, Booked}
-use Rattle.load.specs.Stream.{noStream, lengthOf, profileOf}
+use Rattle.load.specs.Stream.{noStream, lengthOf, endOf, profileOf}
 use Rattle.load.specs.Streams.{streamsOf}
 use Rattle.load.specs.Basic.{Playable, Within, EachOf}
 use Rattle.load.specs.declared.stream.Stream.{Stream}
-use Rattle.sheet.specs.Sheet.{Laid, Lays, Places, Raises, Raised}
-use Rattle.sheet.specs.LaidLaws.{length-worked, laid-raises, laid-raised}
+use Rattle.rounds.specs.Sheet as rounds
+use Rattle.rounds.specs.Sheet.{Places, DaySheet, Summable}
+use Rattle.rounds.specs.DaySheetLaws.{length-worked, day-again}
 use Rattle.search.specs.Fit.{queryOf, startAt, fitsAt, answerOf, Window}
 use Rattle.search.specs.declared.Found.{Found}
 use Rattle.search.specs.declared.Found.the-variants.{At, Nowhere}
@@ -41,11 +42,12 @@ use Rattle.questions.specs.Numbers.{roundsHold, dayHolds, limitsHold, sheetHold
 use Rattle.questions.specs.Standing.{Standing, standing-held, standing-numbered, standing-after}
 use Rattle.questions.specs.Tied.{Tied, AllTied, tied-rounds}
 use Rattle.questions.specs.ListSound.{all-tied-taken, length-streams, sound-playable}
-use Rattle.questions.specs.SheetOf.{SheetOf, laid-sheet}
+use Rattle.questions.specs.SheetOf.{SheetOf, day-sheet-of}
 use Rattle.questions.specs.Start.{first-query}
 use Rattle.booking.specs.Contract.{Leaves, bookAsks}
 use Rattle.booking.specs.Own.{requestOf, request-tied}
-use Rattle.booking.specs.Place.{film-small, laid-window}
+use Rattle.booking.specs.Append.{Appends}
+use Rattle.booking.specs.Place.{film-small, sheet-window}
 
 -- the code's questions are the model's
 pub asks-same : (f : List ℕ) (day : Day) (rows : List Booking) (places : ℕ) (q : Request) (o r h : List ℕ)
@@ -120,12 +122,13 @@ module _ (f : List ℕ) (day : Day) (rows : List Booking) (places : ℕ) (q : Re
     sheet-places : Places T o₀ r₀ h₀
     sheet-places = record { opens-places = stands .opens; reserves-places = stands .reserves; helds-places = stands .helds }
 
-    pub lays : Lays f xs (day .count) T o₀ r₀ h₀
-    lays = record { few = stands .few; streams = good .0; within = good .1; places = sheet-places }
+    pub summable : Summable f xs (day .count) 0 T o₀ r₀ h₀
+    summable =
+        record { few = stands .few; playable = good .0; order = omega arith; day = stands .rounds; places = sheet-places }
 
     -- ---- the search over it
 
-    module _ (o r h : List ℕ) (laid : Laid f (take (day .count) xs) T o₀ r₀ h₀ o r h) where
+    module _ (o r h : List ℕ) (summed : DaySheet f (take (day .count) xs) T o₀ r₀ h₀ o r h) where
       count-taken : length (take (day .count) xs) ≡ day .count
       count-taken = length-take-le (day .count) xs (omega (arith, length-streams f day rows (day .count) xs (stands .accepted) (stands .few) there made, stands .few))
 
@@ -161,11 +164,11 @@ module _ (f : List ℕ) (day : Day) (rows : List Booking) (places : ℕ) (q : Re
 
       pub window : Window (queryOf y (profileOf f y) (take (day .count) xs) o r h (day .disk) (day .memory)) (q .last)
       window =
-          laid-window f (take (day .count) xs) T o₀ r₀ h₀ o r h laid (omega (arith, count-taken, asks .few)) good-taken sheet-places (stands .rounds) y
+          sheet-window f (take (day .count) xs) T o₀ r₀ h₀ o r h summed (omega (arith, count-taken, asks .few)) good-taken sheet-places (stands .rounds) y
           (profileOf f y) (day .disk) (day .memory) (q .last) last-within
 
       sheet-of : SheetOf S bs o₀ r₀ h₀ o r h
-      sheet-of = laid-sheet S f bs (take (day .count) xs) tied o₀ r₀ h₀ o r h laid
+      sheet-of = day-sheet-of S f bs (take (day .count) xs) tied o₀ r₀ h₀ o r h summed
 
       ties : (s : ℕ) → Tied S f (recordOf q s) (startAt s y)
       ties s =
@@ -228,10 +231,20 @@ module _ (f : List ℕ) (day : Day) (rows : List Booking) (places : ℕ) (q : Re
               stored = request-fair .stored;
             }
 
-        pub raises : Raises f (startAt s y) T o r h
-        raises =
-            laid-raises f (take (day .count) xs) (startAt s y) T o₀ r₀ h₀ o r h laid (omega (arith, count-taken, asks .few)) good-taken started
-            (omega (arith, last-within, in-window)) sheet-places
+        pub appends : Appends f xs (day .count) (startAt s y) o r h
+        appends =
+            let within : endOf (startAt s y) ≤ T = omega (arith, last-within, in-window) in
+            record {
+              few = asks .few;
+              playable = good .0;
+              stream = started;
+              places =
+                  record {
+                    opens-places = omega (arith, length-worked T _ o₀ o (summed .films) (stands .opens), stands .opens);
+                    reserves-places = omega (arith, length-worked T _ r₀ r (summed .reserved) (stands .reserves), stands .reserves);
+                    helds-places = omega (arith, length-worked T _ h₀ h (summed .held) (stands .helds), stands .helds);
+                  };
+            }
 
         -- what `append` asks
         pub record Appendable : Type 0 where
@@ -254,33 +267,33 @@ module _ (f : List ℕ) (day : Day) (rows : List Booking) (places : ℕ) (q : Re
         tied-snoc : AllTied S f (bs ++ (recordOf q s ∷ [])) (take (day .count) xs ++ (startAt s y ∷ []))
         tied-snoc = all-tied-snoc S f bs (take (day .count) xs) tied (recordOf q s) (startAt s y) (ties s)
 
-        -- the booking is appended, and added to the sheet
-        pub leaves-at : (o′ r′ h′ : List ℕ) → Raised f (startAt s y) T o r h o′ r′ h′
-            → Leaves S (bookCall S d q) (Booked s)
-            (record { rounds = day .rounds; disk = day .disk; memory = day .memory; now = day .now; count = day .count + 1 })
-            (set rows (day .count) (recordOf q s)) o′ r′ h′
-        leaves-at o′ r′ h′ raised =
-            let c = call-same (Fit.at s) model-at in
-            let all = laid-sheet S f (bs ++ (recordOf q s ∷ [])) (take (day .count) xs ++ (startAt s y ∷ [])) tied-snoc o₀ r₀ h₀ o′ r′ h′
-            (laid-raised f (take (day .count) xs) (startAt s y) T o₀ r₀ h₀ o r h laid o′ r′ h′ raised) in
-            rw c
-            (record {
-              answer = refl;
-              day = ap (λ (n : ℕ). record { rounds = day .rounds; disk = day .disk; memory = day .memory; now = day .now; count = n }) (add-one (day .count));
-              rows = refl;
-              opens = all .films;
-              reserves = all .reserve-sums;
-              helds = all .held-sums;
-            })
+        module _ (o′ r′ h′ : List ℕ)
+            (again : rounds.SheetOf f (take (day .count) xs ++ (startAt s y ∷ [])) s (endOf (startAt s y)) o r h o′ r′ h′) where
+          summed-again : DaySheet f (take (day .count) xs ++ (startAt s y ∷ [])) T o₀ r₀ h₀ o′ r′ h′
+          summed-again =
+              day-again f (take (day .count) xs) T o₀ r₀ h₀ o r h (startAt s y) (omega (arith, last-within, in-window)) o′ r′ h′ summed again
 
-        -- each list is as long as it was
-        pub same-lengths : (o′ r′ h′ : List ℕ) → Raised f (startAt s y) T o r h o′ r′ h′
-            → (length o′ ≡ length o₀) × (length r′ ≡ length r₀) × (length h′ ≡ length h₀)
-        same-lengths o′ r′ h′ raised =
-            let lo = length-worked T _ o₀ o (laid .films) (stands .opens) in
-            let lr = length-worked T _ r₀ r (laid .reserved) (stands .reserves) in
-            let lh = length-worked T _ h₀ h (laid .held) (stands .helds) in (
-              length-worked T _ o o′ (raised .films) (omega (arith, stands .opens)) ∙ lo,
-              length-worked T _ r r′ (raised .reserved) (omega (arith, stands .reserves)) ∙ lr,
-              length-worked T _ h h′ (raised .held) (omega (arith, stands .helds)) ∙ lh,
-            )
+          -- the booking is appended, and the rounds that it changes are summed again
+          pub leaves-at : Leaves S (bookCall S d q) (Booked s)
+              (record { rounds = day .rounds; disk = day .disk; memory = day .memory; now = day .now; count = day .count + 1 })
+              (set rows (day .count) (recordOf q s)) o′ r′ h′
+          leaves-at =
+              let c = call-same (Fit.at s) model-at in
+              let all = day-sheet-of S f (bs ++ (recordOf q s ∷ [])) (take (day .count) xs ++ (startAt s y ∷ [])) tied-snoc o₀ r₀ h₀ o′ r′ h′ summed-again in
+              rw c
+              (record {
+                answer = refl;
+                day = ap (λ (n : ℕ). record { rounds = day .rounds; disk = day .disk; memory = day .memory; now = day .now; count = n }) (add-one (day .count));
+                rows = refl;
+                opens = all .films;
+                reserves = all .reserve-sums;
+                helds = all .held-sums;
+              })
+
+          -- each list is as long as it was
+          pub same-lengths : (length o′ ≡ length o₀) × (length r′ ≡ length r₀) × (length h′ ≡ length h₀)
+          same-lengths = (
+            length-worked T _ o₀ o′ (summed-again .films) (stands .opens),
+            length-worked T _ r₀ r′ (summed-again .reserved) (stands .reserves),
+            length-worked T _ h₀ h′ (summed-again .held) (stands .helds),
+          )

@@ -3,12 +3,17 @@ use limits::bounds::MAX_BOOKINGS;
 use load::stream::Stream;
 use model::Booking;
 use model::Request;
+use rounds::sheet::sum_sheet;
 ghost use mathlib.Core.Path.{_≡_};
+ghost use mathlib.Core.List.{[], _∷_, _++_};
 ghost use Prim.Native.Nat.{_≤_, _<_, _^_};
-ghost use lib.ListN.{set};
+ghost use lib.ListN.{set, take};
 ghost use Rattle.limits.specs.Bounds.{maxBookings, maxDay, maxPrefetch, maxReserve};
 ghost use Rattle.model.specs.Day.{recordOf};
+ghost use Rattle.load.specs.Stream.{endOf};
+ghost use Rattle.rounds.specs.Sheet.{SheetOf};
 ghost use Rattle.search.specs.Fit.{startAt};
+ghost use Rattle.booking.specs.Append.{Appends};
 
 // The record of a request at a start.
 fn record_of(q: Request, s: u64) -> Booking
@@ -53,4 +58,32 @@ pub fn start_at(y: Stream, s: u64) -> Stream
         reserve: y.reserve,
         cabs: y.cabs,
     }
+}
+
+// Sums the rounds in which the stream x is open, with x behind the first `count`.
+pub fn sum_appended(
+    file: &[u8],
+    xs: [Stream; MAX_BOOKINGS],
+    count: usize,
+    x: Stream,
+    opens: &mut [u64],
+    reserves: &mut [u64],
+    helds: &mut [u64],
+)
+    requires { ⌜ Appends (now file) xs count x (now opens) (now reserves) (now helds) ⌝ }
+    ensures { λ _. ⌜ SheetOf (now (file .entry)) (take count xs ++ (x ∷ [])) (x .start) (endOf x) (now (opens .entry)) (now (reserves .entry)) (now (helds .entry)) (now (opens .exit)) (now (reserves .exit)) (now (helds .exit)) ⌝ }
+{
+    let mut longer = xs;
+    longer[count] = x;
+    let end = x.start + x.prefetch + x.rounds;
+    sum_sheet(
+        file,
+        longer,
+        count + 1,
+        x.start,
+        end,
+        opens,
+        reserves,
+        helds,
+    );
 }

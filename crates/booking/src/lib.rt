@@ -4,6 +4,7 @@ pub mod request;
 
 use append::append;
 use append::start_at;
+use append::sum_appended;
 use films::catalogue::catalogue;
 use films::types::Catalogue;
 use limits::bounds::MAX_BOOKINGS;
@@ -16,10 +17,9 @@ use model::Request;
 use questions::standing::standing_number;
 use request::own_number;
 use request::requested;
+use rounds::sheet::sum_sheet;
 use search::Found;
 use search::first_start;
-use sheet::sheet::add_stream;
-use sheet::sheet::lay_sheet;
 ghost use mathlib.Core.Path.{_≡_};
 ghost use lib.ListN.{length, take};
 ghost use Rattle.laws.specs.Questions.{refusal};
@@ -39,8 +39,8 @@ pub struct Outcome {
     pub rows: [Booking; MAX_BOOKINGS],
 }
 
-// Places a request whose questions but 22 have passed: the sheet of the standing bookings is laid down, and the first start
-// of the window that fits gets a record and is added to the sheet.
+// Places a request whose questions but 22 have passed: the sheet of the standing bookings is summed, and the first start
+// of the window that fits gets a record, with which the rounds that it changes are summed again.
 fn place(
     file: &[u8],
     c: Catalogue,
@@ -58,7 +58,7 @@ fn place(
     let count = day.count as usize;
     let rounds = day.rounds as usize;
     let xs = streams_of(c, rows, count);
-    lay_sheet(file, xs, count, rounds, opens, reserves, helds);
+    sum_sheet(file, xs, count, 0, rounds, opens, reserves, helds);
     let y = requested(c, q);
     let found = first_start(
         file,
@@ -75,7 +75,7 @@ fn place(
     );
     match found {
         Found::At(s) => {
-            add_stream(file, start_at(y, s), rounds, opens, reserves, helds);
+            sum_appended(file, xs, count, start_at(y, s), opens, reserves, helds);
             Outcome {
                 answer: Answer::Booked(s),
                 day: Day {

@@ -1,6 +1,6 @@
 -- The claim of a session, for every film file and every list of commands: what it prints is what the plain days of its accepted
 -- OPENs answer. Assumes nothing.
-use mathlib.Core.Path.{_≡_, refl, ap, ap₂, _∙_}
+use mathlib.Core.Path.{_≡_, refl, ap₂, _∙_}
 use mathlib.Core.List.{List, [], _∷_, _++_}
 use Prim.Native.Nat.{ℕ, _≤_}
 use lib.ListN.{length}

@@ -10,7 +10,7 @@ use Rattle.films.specs.declared.types.Catalogue.{Catalogue}
 use Rattle.model.specs.Soundness.{soundList}
 use Rattle.model.specs.declared.Booking.{Booking}
 use Rattle.model.specs.declared.Day.{Day}
-use Rattle.sheet.specs.Sheet.{Places}
+use Rattle.rounds.specs.Sheet.{Places}
 use Rattle.questions.specs.Given.{settingAt}
 
 -- bs is a sound list of n bookings on an accepted file, and the sheet has T places

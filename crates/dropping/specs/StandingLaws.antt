@@ -2,6 +2,7 @@
 use mathlib.Core.Path.{_≡_, ap, _∙_}
 use mathlib.Core.List.{List}
 use Prim.Native.Nat.{ℕ, _≤_}
+use native.Mathlib.Omega.{arith}
 use lib.ListN.{length, take}
 use Rattle.films.specs.Catalogue.{catalogueOf}
 use Rattle.films.specs.declared.types.Catalogue.{Catalogue}
@@ -9,10 +10,12 @@ use Rattle.model.specs.declared.Booking.{Booking}
 use Rattle.model.specs.declared.Day.{Day}
 use Rattle.load.specs.Streams.{streamsOf}
 use Rattle.load.specs.declared.stream.Stream.{Stream}
-use Rattle.sheet.specs.Sheet.{Lays, Laid}
+use Rattle.rounds.specs.Sheet as rounds
+use Rattle.rounds.specs.Sheet.{Summable}
+use Rattle.rounds.specs.DaySheetLaws.{day-sheet}
 use Rattle.questions.specs.Given.{settingAt}
 use Rattle.questions.specs.ListSound.{all-tied-taken, sound-playable}
-use Rattle.questions.specs.SheetOf.{SheetOf, laid-sheet}
+use Rattle.questions.specs.SheetOf.{SheetOf, day-sheet-of}
 use Rattle.dropping.specs.Standing.{Stands}
 
 module _ (f : List ℕ) (c : Catalogue) (day : Day) (rows : List Booking) (n : ℕ) (opens reserves helds : List ℕ)
@@ -21,14 +24,14 @@ module _ (f : List ℕ) (c : Catalogue) (day : Day) (rows : List Booking) (n : �
   from-file = made ∙ ap (λ (k : Catalogue). streamsOf k n rows) (g .catalogue)
 
   -- each stream is playable, as question 16 has it
-  pub stands-lays : Lays f xs n (day .rounds) opens reserves helds
-  stands-lays =
+  pub stands-summable : Summable f xs n 0 (day .rounds) opens reserves helds
+  stands-summable =
       let p = sound-playable f day rows n xs (g .accepted) (g .few) there from-file (g .rounds) (g .sound) in
-      record { few = g .few; streams = p .0; within = p .1; places = g .places }
+      record { few = g .few; playable = p .0; order = omega arith; day = g .rounds; places = g .places }
 
   -- what the streams hold, the bookings do
-  pub laid-worked : (o v h : List ℕ) → Laid f (take n xs) (day .rounds) opens reserves helds o v h
+  pub summed-worked : (o v h : List ℕ) → rounds.SheetOf f (take n xs) 0 (day .rounds) opens reserves helds o v h
       → SheetOf (settingAt f day) (take n rows) opens reserves helds o v h
-  laid-worked =
-      laid-sheet (settingAt f day) f (take n rows) (take n xs) (all-tied-taken f day rows n xs (g .accepted) (g .few) there from-file) opens reserves
-      helds
+  summed-worked o v h w =
+      day-sheet-of (settingAt f day) f (take n rows) (take n xs) (all-tied-taken f day rows n xs (g .accepted) (g .few) there from-file) opens reserves
+      helds o v h (day-sheet f (take n xs) (day .rounds) opens reserves helds o v h w)

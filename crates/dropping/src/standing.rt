@@ -4,7 +4,7 @@ use limits::bounds::MAX_BOOKINGS;
 use load::stream::streams_of;
 use model::Booking;
 use model::Day;
-use sheet::sheet::lay_sheet;
+use rounds::sheet::sum_sheet;
 ghost use lib.ListN.{take};
 ghost use Rattle.questions.specs.Given.{settingAt};
 ghost use Rattle.questions.specs.SheetOf.{SheetOf};
@@ -25,5 +25,14 @@ pub fn lay_standing(
     ensures { λ _. ⌜ SheetOf (settingAt (now (file .entry)) day) (take count rows) (now (opens .entry)) (now (reserves .entry)) (now (helds .entry)) (now (opens .exit)) (now (reserves .exit)) (now (helds .exit)) ⌝ }
 {
     let xs = streams_of(c, rows, count);
-    lay_sheet(file, xs, count, day.rounds as usize, opens, reserves, helds);
+    sum_sheet(
+        file,
+        xs,
+        count,
+        0,
+        day.rounds as usize,
+        opens,
+        reserves,
+        helds,
+    );
 }

@@ -28,7 +28,7 @@ use Rattle.interface.specs.Reply.{replyOf, reply-number}
 use Rattle.interface.specs.Rounds.{Rounds}
 use Rattle.interface.specs.DeskCalls.{RepliesFirst, Books, BooksOver, DropsOver, PlaysOver}
 use Rattle.interface.specs.declared.reply.Reply.{Reply}
-use Rattle.interface.specs.declared.rounds.Round.{Round}
+use Rattle.interface.specs.declared.play_call.Round.{Round}
 
 -- ---- the first start, in numbers
 

@@ -29,7 +29,7 @@ use Rattle.playing.specs.Lines.{noLine, padded}
 use Rattle.playing.specs.declared.Played as R
 use Rattle.interface.specs.Records.{fitting, stored}
 use Rattle.interface.specs.RecordLaws.{take-min}
-use Rattle.interface.specs.declared.rounds.Round.{Round}
+use Rattle.interface.specs.declared.play_call.Round.{Round}
 
 -- what the model's call gives is what the round says: the answer, the day after it, and the report with its lines written
 pub record Shows (S : Setting) (out : Outcome) (report : List Line) (r : Round) : Type 0 where

@@ -3,7 +3,7 @@
 pub mod desk_calls;
 pub mod film_calls;
 pub mod plan_calls;
+pub mod play_call;
 pub mod replay_call;
 pub mod reply;
-pub mod rounds;
 pub mod rows;

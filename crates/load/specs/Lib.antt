@@ -2,7 +2,6 @@
 pub mod Stream
 pub mod Streams
 pub mod Basic
-pub mod Disk
 pub mod Lists
 pub mod StreamLaws
 pub mod BasicLaws

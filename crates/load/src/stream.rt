@@ -6,6 +6,7 @@ use model::Booking;
 ghost use mathlib.Core.Path.{_≡_};
 ghost use Prim.Native.Nat.{_≤_};
 ghost use Rattle.limits.specs.Bounds.{maxBookings};
+ghost use Rattle.load.specs.Stream.{openIn};
 ghost use Rattle.load.specs.Streams.{streamOf, streamsOf};
 
 // A booking together with its film's place in the file.
@@ -72,4 +73,18 @@ pub fn streams_of(
         i += 1;
     }
     xs
+}
+
+// Whether the stream is open in round t: rounds s to s+p+n-1.
+pub fn open_in(x: Stream, t: usize) -> bool
+    ensures { λ r. ⌜ r ≡ openIn t x ⌝ }
+{
+    if t < x.start {
+        return false;
+    }
+    let age = t - x.start;
+    if age < x.prefetch {
+        return true;
+    }
+    age - x.prefetch < x.rounds
 }

@@ -37,6 +37,5 @@ pub mod UnreadLaws
 -- ---- Laws for the code
 
 pub mod CabLaws
-pub mod DiskLaws
 pub mod SoundTest
 pub mod CodeLaws

@@ -1,8 +1,10 @@
 // Opening a day.
+pub mod clear;
+
+use clear::clear;
 use model::Answer;
 use model::Day;
 use questions::asked::opening_number;
-use sheet::clear::clear;
 ghost use mathlib.Core.List.{List};
 ghost use Prim.Native.Nat.{ℕ};
 ghost use Rattle.films.specs.Layout.{Film};

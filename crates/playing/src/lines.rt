@@ -1,8 +1,8 @@
 // The report of a round: a line for each film open.
 use films::types::Catalogue;
 use limits::bounds::MAX_BOOKINGS;
-use load::disk::open_in;
 use load::stream::Stream;
+use load::stream::open_in;
 use load::stream::stream_of;
 use model::Booking;
 use model::Day;

@@ -1,10 +1,8 @@
 -- The session of document 01, 'The program', from the bytes of films.bin and of the input to those of the output.
 use mathlib.Core.Path.{_≡_, refl, sym, ap, _∙_}
-use mathlib.Core.List.{List, [], map}
+use mathlib.Core.List.{List, map}
 use mathlib.Core.Option.{none, some}
 use Prim.Native.Nat.{ℕ}
-use lib.ListN.{replicate}
-use Rattle.limits.specs.Bounds.{hallFile}
 use Rattle.films.specs.Questions.{headQuestions, exceeds, roundsInRange, sizeQuestions, fileQuestions}
 use Rattle.model.specs.Day.{Setting}
 use Rattle.model.specs.Fit.{Fits}

@@ -4,7 +4,6 @@ use mathlib.Core.Bool.{Bool, true, false, cond}
 use mathlib.Core.List.{List, [], _∷_}
 use Prim.Native.Nat.{ℕ, zero, suc, _+_, _≤_, _<_}
 use native.Mathlib.Omega.{arith}
-use lib.Dec.{leb}
 use lib.ListN.{length, drop, getD, drop-of-length-le}
 use borrow.Author.Tests.{le-leb, lt-leb}
 use Rattle.limits.specs.Bounds.{hallFile}
@@ -21,7 +20,7 @@ use Rattle.console.specs.Session.{SessionState}
 use Rattle.console.specs.Contract.{After, inFront, stepOf}
 use Rattle.console.specs.Stepping.{placed-front}
 use Rattle.program.specs.Program.{fileNumber, refusalText}
-use Rattle.program.specs.Contract.{Beginning, beginBy, nothing, answered, servedOf, endedOf}
+use Rattle.program.specs.Contract.{beginBy, nothing, answered, servedOf, endedOf}
 
 -- ---- The film file
 

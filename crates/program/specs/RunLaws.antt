@@ -3,7 +3,6 @@ use mathlib.Core.Path.{_≡_, refl, sym, ap, _∙_}
 use mathlib.Core.Bool.{Bool, true, false, cond}
 use mathlib.Core.List.{List, [], _∷_, _++_, map, append-nil}
 use Prim.Native.Nat.{ℕ}
-use lib.ListN.{take}
 use Rattle.lines.specs.Lines.{commandHeld, heldOf, fed, given}
 use Rattle.lines.specs.Feeding.{fedLine, afterLine}
 use Rattle.lines.specs.declared.Splitter.{Splitter}

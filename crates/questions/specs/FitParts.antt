@@ -16,7 +16,7 @@ use Rattle.model.specs.Soundness.{fitTest, limitsKept}
 use Rattle.model.specs.FitLaws.{length-sends, place, Round, round-says, says-round, limits-round, round-limits}
 use Rattle.model.specs.SoundLaws.{Sound, sound-exist, all-map, all-snoc, passes-held}
 use Rattle.model.specs.CodeLaws.{total-snoc, held-profile, clash, pairsClear, pairs-showing, pairs-iff}
-use Rattle.model.specs.DiskLaws.{same-test}
+use Rattle.retrieval.specs.Tests.{same-test}
 use Rattle.model.specs.Soundness.{passes}
 use Rattle.model.specs.declared.Booking.{Booking}
 

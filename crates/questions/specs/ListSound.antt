@@ -5,7 +5,6 @@ use mathlib.Core.List.{List, map}
 use Prim.Native.Nat.{ℕ, _≤_}
 use native.Mathlib.Omega.{arith}
 use lib.ListN.{length, take}
-use lib.Seq.{length-take-le}
 use Rattle.limits.specs.Bounds.{maxBookings, maxDay}
 use Rattle.laws.specs.Tests.{left, right, all}
 use Rattle.films.specs.Questions.{verdict}
@@ -38,7 +37,7 @@ module _ (f : List ℕ) (day : Day) (rows : List Booking) (n : ℕ) (xs : List S
       ≡ namesDiffer (take n rows)
       && (all (basicOf (day .rounds)) (take n xs) && streamsSound f (day .rounds) (day .disk) (day .memory) (take n xs))
   list-sound =
-      sound-streams (settingAt f day) f refl (take n rows) (take n xs) all-tied-taken (omega (arith, length-take-le n rows there))
+      sound-streams (settingAt f day) f refl (take n rows) (take n xs) all-tied-taken
 
   pub streams-playable : day .rounds ≤ maxDay → all (basicOf (day .rounds)) (take n xs) ≡ true
       → EachOf (Playable f) n xs × EachOf (Within (day .rounds)) n xs

@@ -9,7 +9,7 @@ use Rattle.model.specs.Calls.{workedOut}
 use Rattle.model.specs.PlacesLaws.{perRound-same}
 use Rattle.model.specs.declared.Booking.{Booking}
 use Rattle.load.specs.declared.stream.Stream.{Stream}
-use Rattle.sheet.specs.Sheet.{Laid}
+use Rattle.rounds.specs.Sheet.{DaySheet}
 use Rattle.questions.specs.Tied.{AllTied, opened-tied, reserved-tied, held-tied}
 
 -- the first T places of three lists are worked out from bs, and the rest is as it was
@@ -21,11 +21,11 @@ pub record SheetOf (S : Setting) (bs : List Booking) (opens₀ reserves₀ helds
 worked-same : (T : ℕ) (g h : ℕ → ℕ) (old : List ℕ) → ((t : ℕ) → g t ≡ h t) → workedOut T g old ≡ workedOut T h old
 worked-same T g h old e = ap (λ (l : List ℕ). l ++ drop T old) (perRound-same g h e 0 T)
 
-pub laid-sheet : (S : Setting) (f : List ℕ) (bs : List Booking) (xs : List Stream) → AllTied S f bs xs
-    → (o₀ r₀ h₀ o r h : List ℕ) → Laid f xs (S .rounds) o₀ r₀ h₀ o r h → SheetOf S bs o₀ r₀ h₀ o r h
-laid-sheet S f bs xs tied o₀ r₀ h₀ o r h laid =
+pub day-sheet-of : (S : Setting) (f : List ℕ) (bs : List Booking) (xs : List Stream) → AllTied S f bs xs
+    → (o₀ r₀ h₀ o r h : List ℕ) → DaySheet f xs (S .rounds) o₀ r₀ h₀ o r h → SheetOf S bs o₀ r₀ h₀ o r h
+day-sheet-of S f bs xs tied o₀ r₀ h₀ o r h summed =
     record {
-      films = laid .films ∙ worked-same (S .rounds) _ _ o₀ (λ t. sym (opened-tied S f bs xs tied t));
-      reserve-sums = laid .reserved ∙ worked-same (S .rounds) _ _ r₀ (λ t. sym (reserved-tied S f bs xs tied t));
-      held-sums = laid .held ∙ worked-same (S .rounds) _ _ h₀ (λ t. sym (held-tied S f bs xs tied t));
+      films = summed .films ∙ worked-same (S .rounds) _ _ o₀ (λ t. sym (opened-tied S f bs xs tied t));
+      reserve-sums = summed .reserved ∙ worked-same (S .rounds) _ _ r₀ (λ t. sym (reserved-tied S f bs xs tied t));
+      held-sums = summed .held ∙ worked-same (S .rounds) _ _ h₀ (λ t. sym (held-tied S f bs xs tied t));
     }

@@ -1,6 +1,6 @@
 -- Question 16 by the streams: what the code tests is the model's soundness. Assumes nothing.
 use mathlib.Core.Path.{_≡_, refl, sym, ap, ap₂, _∙_, subst}
-use mathlib.Core.Bool.{Bool, true, not, _&&_}
+use mathlib.Core.Bool.{Bool, true, cond, not, _&&_}
 use mathlib.Core.List.{List, [], _∷_}
 use Prim.Native.Nat.{ℕ, zero, suc, _≤_, _<_}
 use native.Mathlib.Omega.{arith}
@@ -8,64 +8,66 @@ use native.Mathlib.Nat.{not-suc-le-zero, le-of-suc-le-suc}
 use lib.ListN.{length, getD, take}
 use lib.Seq.{getD-take, length-take-le}
 use lib.Dec.{leb, eqb}
+use lib.Bits.{bitAnd, bitOr}
 use borrow.Author.Tests.{leb-true}
-use Rattle.limits.specs.Bounds.{maxBookings, maxDay, maxPrefetch, maxReserve}
+use Rattle.limits.specs.Bounds.{maxDay, maxPrefetch, maxReserve}
 use Rattle.films.specs.Sizes.{Stored}
 use Rattle.laws.specs.Tests.{left, right, all, all-at, below}
 use Rattle.loss.specs.Loss.{lossAt}
-use Rattle.loss.specs.Rising.{loss-rising}
-use Rattle.model.specs.Day.{Setting, exists}
-use Rattle.model.specs.Soundness.{namesDiffer, soundList}
-use Rattle.model.specs.SoundTest.{basic, memoryAt, soundTest, sound-test}
-use Rattle.model.specs.DiskLaws.{diskAt, diskAtStarts}
-use Rattle.model.specs.CodeLaws.{pairsClear}
+use Rattle.retrieval.specs.JustInTime.{existsBy}
+use Rattle.model.specs.Day.{Setting, cabsAt, exists}
+use Rattle.model.specs.Soundness.{namesDiffer, apart, roundKept, limitsKept, soundList}
+use Rattle.model.specs.SoundTest.{basic, sound-test}
 use Rattle.model.specs.declared.Booking.{Booking}
-use Rattle.load.specs.Stream as L
-use Rattle.load.specs.Stream.{noStream, endOf, heldIn}
+use Rattle.load.specs.Stream.{noStream, endOf, sendsOf}
 use Rattle.load.specs.Basic.{basicOf, endsBy, Bounded, Playable, Within, EachOf}
-use Rattle.load.specs.Disk.{diskKept, startsKept}
 use Rattle.load.specs.declared.stream.Stream.{Stream}
-use Rattle.sheet.specs.Memory.{feasible, memoryKept}
-use Rattle.questions.specs.Tied.{AllTied, all-tied, opened-tied, reserved-tied, held-tied, pairs-tied, basic-tied, exists-tied}
+use Rattle.rounds.specs.Kept.{cabsIn, apartIn, keptIn}
+use Rattle.questions.specs.Tied.{AllTied, all-tied, tied-shows, opened-tied, reserved-tied, held-tied, basic-tied, exists-tied}
 
 -- two tests that agree below n
 pub below-same : (n : ℕ) (g h : ℕ → Bool) → ((j : ℕ) → j < n → g j ≡ h j) → below n g ≡ below n h
 below-same zero g h e = refl
 below-same (suc n) g h e = ap₂ (λ (u v : Bool). u && v) (e n (omega arith)) (below-same n g h (λ j k. e j (omega arith)))
 
+-- 12: "Does a schedule exist?"
+unfoldable pub feasible : List ℕ → Stream → Bool
+feasible f x = existsBy (x .reserve) (sendsOf f x)
+
 -- the tests of the streams that the code makes, in its order
 abbrev pub streamsSound : List ℕ → ℕ → ℕ → ℕ → List Stream → Bool
-streamsSound f T D M xs = L.pairsClear xs && (startsKept D xs xs && (memoryKept f M T xs && all (feasible f) xs))
+streamsSound f T D M xs = all (feasible f) xs && below T (keptIn f lossAt D M xs)
 
-module _ (S : Setting) (f : List ℕ) (loss : S .loss ≡ lossAt) (bs : List Booking) (xs : List Stream) (tied : AllTied S f bs xs) where
-  disk-tied : (t : ℕ) → diskAt S bs t ≡ diskKept (S .disk) xs t
-  unfolding diskKept
-  disk-tied t = rw (opened-tied S f bs xs tied t, reserved-tied S f bs xs tied t, loss)
+module _ (S : Setting) (f : List ℕ) (loss : S .loss ≡ lossAt) where
+  -- cabs busy in a round
+  apart-tied : (t taken : ℕ) (bs : List Booking) (xs : List Stream) → AllTied S f bs xs → apart S t taken bs ≡ apartIn t taken xs
+  apart-tied t taken [] [] w = refl
+  apart-tied t taken [] (x ∷ xs) w = absurd w
+  apart-tied t taken (b ∷ bs) [] w = absurd w
+  apart-tied t taken (b ∷ bs) (x ∷ xs) w =
+      let busy : cabsAt S t b ≡ cabsIn t x = ap₂ (λ (v : Bool) (n : ℕ). cond v n 0) (tied-shows S f b x (w .0) t) (sym (w .0 .cabs)) in
+      rw busy (ap (λ (v : Bool). eqb (bitAnd taken (cabsIn t x)) 0 && v) (apart-tied t (bitOr taken (cabsIn t x)) bs xs (w .1)))
 
-  starts-tied : diskAtStarts S bs ≡ startsKept (S .disk) xs xs
-  starts-tied =
-      all-tied S f (λ b. diskAt S bs (b .start)) (λ y. diskKept (S .disk) xs (y .start))
-      (λ b x t. disk-tied (b .start) ∙ ap (λ (r : ℕ). diskKept (S .disk) xs r) (sym (t .start))) bs xs tied
+  module _ (bs : List Booking) (xs : List Stream) (tied : AllTied S f bs xs) where
+    kept-tied : (t : ℕ) → roundKept S bs t ≡ keptIn f lossAt (S .disk) (S .memory) xs t
+    unfolding roundKept keptIn
+    kept-tied t =
+        rw (opened-tied S f bs xs tied t, reserved-tied S f bs xs tied t, held-tied S f bs xs tied t, apart-tied t 0 bs xs tied, loss)
 
-  memory-tied : below (S .rounds) (memoryAt S bs) ≡ memoryKept f (S .memory) (S .rounds) xs
-  unfolding memoryKept
-  memory-tied =
-      below-same (S .rounds) (memoryAt S bs) (λ t. leb (heldIn f t xs) (S .memory))
-      (λ t u. ap (λ (h : ℕ). leb h (S .memory)) (held-tied S f bs xs tied t))
+    exist-tied : all (exists S) bs ≡ all (feasible f) xs
+    unfolding feasible
+    exist-tied = all-tied S f (exists S) (feasible f) (exists-tied S f) bs xs tied
 
-  exist-tied : all (exists S) bs ≡ all (feasible f) xs
-  unfolding feasible
-  exist-tied = all-tied S f (exists S) (feasible f) (exists-tied S f) bs xs tied
+    limits-tied : limitsKept S bs ≡ below (S .rounds) (keptIn f lossAt (S .disk) (S .memory) xs)
+    unfolding limitsKept
+    limits-tied = below-same (S .rounds) (roundKept S bs) (keptIn f lossAt (S .disk) (S .memory) xs) (λ t u. kept-tied t)
 
-  pub sound-streams : length bs ≤ maxBookings
-      → soundList S bs ≡ namesDiffer bs && (all (basicOf (S .rounds)) xs && streamsSound f (S .rounds) (S .disk) (S .memory) xs)
-  unfolding soundTest
-  sound-streams few =
-      sound-test S (rw loss loss-rising) bs few
-      ∙ ap (λ (v : Bool). namesDiffer bs && v)
-      (ap₂ (λ (u v : Bool). u && v) (all-tied S f (basic S) (basicOf (S .rounds)) (basic-tied S f) bs xs tied)
-      (ap₂ (λ (u v : Bool). u && v) (pairs-tied S f bs xs tied)
-      (ap₂ (λ (u v : Bool). u && v) starts-tied (ap₂ (λ (u v : Bool). u && v) memory-tied exist-tied))))
+    pub sound-streams : soundList S bs ≡ namesDiffer bs && (all (basicOf (S .rounds)) xs && streamsSound f (S .rounds) (S .disk) (S .memory) xs)
+    sound-streams =
+        sound-test S bs
+        ∙ ap (λ (v : Bool). namesDiffer bs && v)
+        (ap₂ (λ (u v : Bool). u && v) (all-tied S f (basic S) (basicOf (S .rounds)) (basic-tied S f) bs xs tied)
+        (ap₂ (λ (u v : Bool). u && v) exist-tied limits-tied))
 
 -- ---- what the streams of bookings that pass are good for
 

@@ -12,13 +12,13 @@ use Rattle.films.specs.Layout.{inFile, sizesOf}
 use Rattle.films.specs.Sizes.{sizes, Stored}
 use Rattle.films.specs.SizeLaws.{length-sizes}
 use Rattle.model.specs.Day as M
-use Rattle.model.specs.Day.{Setting, sending, ends, openAt, exists, heldAt, scheduleOf, opened, reserved, held}
+use Rattle.model.specs.Day.{Setting, sending, ends, openAt, showsAt, exists, heldAt, scheduleOf, opened, reserved, held}
 use Rattle.model.specs.CodeLaws as M′
 use Rattle.model.specs.CodeLaws.{clash, held-profile}
 use Rattle.model.specs.SoundTest.{basic}
 use Rattle.model.specs.declared.Booking.{Booking}
 use Rattle.load.specs.Stream as L
-use Rattle.load.specs.Stream.{sendsOf, endOf, openIn, openCount, reservedIn, holdsIn, heldIn, clashes}
+use Rattle.load.specs.Stream.{sendsOf, endOf, openIn, showsIn, openCount, reservedIn, holdsIn, heldIn, clashes}
 use Rattle.load.specs.Basic.{basicOf, endsBy}
 use Rattle.retrieval.specs.JustInTime.{existsBy}
 use Rattle.load.specs.declared.stream.Stream.{Stream}
@@ -49,6 +49,10 @@ module _ (S : Setting) (f : List ℕ) where
   pub tied-open : (b : Booking) (x : Stream) → Tied S f b x → (r : ℕ) → openAt S r b ≡ openIn r x
   unfolding openAt openIn
   tied-open b x t r = rw (tied-ends b x t, t .start)
+
+  pub tied-shows : (b : Booking) (x : Stream) → Tied S f b x → (r : ℕ) → showsAt S r b ≡ showsIn r x
+  unfolding showsAt showsIn
+  tied-shows b x t r = rw (tied-ends b x t, t .start, t .prefetch)
 
   pub tied-sends : (b : Booking) (x : Stream) → Tied S f b x → sending S b ≡ sendsOf f x
   tied-sends b x t = rw (t .are, t .prefetch)

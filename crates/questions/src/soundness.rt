@@ -1,28 +1,45 @@
 // Question 16, by the streams of the bookings.
 use films::types::Catalogue;
 use limits::bounds::MAX_BOOKINGS;
-use load::cabs::pairs_clear;
-use load::disk::disk_at_starts;
 use load::names::names_differ;
 use load::records::all_basic;
 use load::stream::Stream;
 use load::stream::streams_of;
 use model::Booking;
 use model::Day;
-use sheet::memory::held_within;
+use retrieval::exists;
+use rounds::kept::rounds_kept;
 ghost use mathlib.Core.Path.{_≡_};
 ghost use Prim.Native.Nat.{_≤_};
 ghost use lib.ListN.{take};
 ghost use Rattle.limits.specs.Bounds.{maxBookings, maxDay};
 ghost use Rattle.films.specs.Questions.{verdict};
 ghost use Rattle.films.specs.Catalogue.{catalogueOf};
-ghost use Rattle.load.specs.Basic.{Playable, Within, EachOf};
+ghost use Rattle.laws.specs.Tests.{all};
+ghost use Rattle.load.specs.Basic.{Playable, EachOf};
+ghost use Rattle.rounds.specs.Kept.{Testable};
 ghost use Rattle.model.specs.Soundness.{soundList};
-ghost use Rattle.questions.specs.Sound.{streamsSound};
+ghost use Rattle.questions.specs.Sound.{feasible, streamsSound};
 ghost use Rattle.questions.specs.Given.{settingAt};
 ghost use Rattle.questions.specs.Numbers.{soundHolds};
 
-// Whether no cab shows two films, every round keeps both limits, and each stream has a schedule.
+// Whether each of the first `count` streams has a schedule.
+fn all_feasible(file: &[u8], xs: [Stream; MAX_BOOKINGS], count: usize) -> bool
+    requires { ⌜ (count ≤ maxBookings) × EachOf (Playable (now file)) count xs ⌝ }
+    ensures { λ r. ⌜ r ≡ all (feasible (now (file .entry))) (take count xs) ⌝ }
+{
+    let mut i = 0;
+    while i < count {
+        let x = xs[i];
+        if !exists(file, x.at, x.rounds, x.prefetch, x.reserve) {
+            return false;
+        }
+        i += 1;
+    }
+    true
+}
+
+// Whether each stream has a schedule, every round keeps the limits and no cab shows two films.
 fn streams_sound(
     file: &[u8],
     xs: [Stream; MAX_BOOKINGS],
@@ -31,16 +48,13 @@ fn streams_sound(
     disk: u64,
     memory: u64,
 ) -> bool
-    requires { ⌜ (count ≤ maxBookings) × EachOf (Playable (now file)) count xs × EachOf (Within rounds) count xs ⌝ }
+    requires { ⌜ Testable (now file) xs count rounds ⌝ }
     ensures { λ r. ⌜ r ≡ streamsSound (now (file .entry)) rounds disk memory (take count xs) ⌝ }
 {
-    if !pairs_clear(xs, count) {
+    if !all_feasible(file, xs, count) {
         return false;
     }
-    if !disk_at_starts(xs, count, disk) {
-        return false;
-    }
-    held_within(file, xs, count, rounds, memory)
+    rounds_kept(file, xs, count, rounds, disk, memory)
 }
 
 // Is the list of the first `count` bookings sound? The file is accepted, and c is its catalogue.

@@ -12,9 +12,10 @@ use Rattle.model.specs.Fit.{firstOf}
 use Rattle.load.specs.Stream.{profileOf}
 use Rattle.load.specs.Streams.{streamOf, streamsOf}
 use Rattle.load.specs.declared.stream.Stream.{Stream}
+use Rattle.rounds.specs.DaySheetLaws.{day-sheet}
 use Rattle.search.specs.Fit.{queryOf, fitsAt, answerOf, startAt}
 use Rattle.booking.specs.Own.{requestOf}
-use Rattle.booking.specs.Placed.{stands, lays, in-range, window, raises, appendable, leaves-none, leaves-at, same-lengths}
+use Rattle.booking.specs.Placed.{stands, summable, in-range, window, appends, appendable, leaves-none, leaves-at, same-lengths}
 use Rattle.booking.proofs.place.Statement.{statement}
 use Rattle.booking.proofs.place.Tie as tie
 
@@ -27,8 +28,8 @@ streams-of-requires c κs =
     let bytes : Bytes f = λ k. omega (arith, sh .shared-slice-known .given k) in
     stands f (a .day) (a .rows) (a .places) (a .q) (a .opens .now) (a .reserves .now) (a .helds .now) bytes (omega (arith, start)) (start .pre .1) .few
 
-lay-sheet-requires : tie.Need-lay-sheet-requires
-lay-sheet-requires c κs =
+sum-sheet-requires : tie.Need-sum-sheet-requires
+sum-sheet-requires c κs =
     let made = c .before .before .before in
     let sh = made .before .before .before .before in
     let start = sh .before in
@@ -37,7 +38,7 @@ lay-sheet-requires c κs =
     let bytes : Bytes f = λ k. omega (arith, sh .shared-slice-known .given k) in
     let em : made .streams-of .result ≡ streamsOf (catalogueOf f) (a .day .count) (a .rows) =
     made .streams-of .ensures ∙ ap (λ (k : Catalogue). streamsOf k (a .day .count) (a .rows)) (start .pre .0) in
-    lays f (a .day) (a .rows) (a .places) (a .q) (a .opens .now) (a .reserves .now) (a .helds .now) bytes (omega (arith, start)) (start .pre .1) (made .streams-of .result) em
+    summable f (a .day) (a .rows) (a .places) (a .q) (a .opens .now) (a .reserves .now) (a .helds .now) bytes (omega (arith, start)) (start .pre .1) (made .streams-of .result) em
 
 requested-requires : tie.Need-requested-requires
 requested-requires c κs = search needs
@@ -57,7 +58,7 @@ first-start-requires c κs =
     let em : made .streams-of .result ≡ streamsOf (catalogueOf f) (a .day .count) (a .rows) =
     made .streams-of .ensures ∙ ap (λ (k : Catalogue). streamsOf k (a .day .count) (a .rows)) (start .pre .0) in
     rw ey
-    (stands f (a .day) (a .rows) (a .places) (a .q) (a .opens .now) (a .reserves .now) (a .helds .now) bytes (omega (arith, start)) (start .pre .1) .few, in-range f (a .day) (a .rows) (a .places) (a .q) (a .opens .now) (a .reserves .now) (a .helds .now) bytes (omega (arith, start)) (start .pre .1) (made .streams-of .result) em _ _ _ (ls .lay-sheet .ensures), window f (a .day) (a .rows) (a .places) (a .q) (a .opens .now) (a .reserves .now) (a .helds .now) bytes (omega (arith, start)) (start .pre .1) (made .streams-of .result) em _ _ _ (ls .lay-sheet .ensures))
+    (stands f (a .day) (a .rows) (a .places) (a .q) (a .opens .now) (a .reserves .now) (a .helds .now) bytes (omega (arith, start)) (start .pre .1) .few, in-range f (a .day) (a .rows) (a .places) (a .q) (a .opens .now) (a .reserves .now) (a .helds .now) bytes (omega (arith, start)) (start .pre .1) (made .streams-of .result) em _ _ _ (day-sheet _ _ _ _ _ _ _ _ _ (ls .sum-sheet .ensures)), window f (a .day) (a .rows) (a .places) (a .q) (a .opens .now) (a .reserves .now) (a .helds .now) bytes (omega (arith, start)) (start .pre .1) (made .streams-of .result) em _ _ _ (day-sheet _ _ _ _ _ _ _ _ _ (ls .sum-sheet .ensures)))
 
 enum-known-found : tie.Need-enum-known-found
 enum-known-found c = search needs
@@ -65,8 +66,8 @@ enum-known-found c = search needs
 start-at-requires : tie.Need-start-at-requires
 start-at-requires c κs = search needs
 
-add-stream-requires : tie.Need-add-stream-requires
-add-stream-requires c κs =
+sum-appended-requires : tie.Need-sum-appended-requires
+sum-appended-requires c κs =
     let sa = c .before .before .before in
     let fo = sa .before .before in
     let fs = fo .before .before in
@@ -85,8 +86,8 @@ add-stream-requires c κs =
     let at-s =
     sym (fo .found .given .1)
     ∙ fs .first-start .ensures
-    ∙ ap (λ (y : Stream). answerOf (firstOf (fitsAt (queryOf y (profileOf f y) (take (a .day .count) (made .streams-of .result)) (ls .lay-sheet .last .1 .1 .1 .1 .0) (ls .lay-sheet .last .1 .1 .1 .1 .1 .0) (ls .lay-sheet .last .1 .1 .1 .1 .1 .1 .0) (a .day .disk) (a .day .memory))) (a .q .first) (a .q .last))) ey in
-    rw (sa .start-at .ensures, ey) (raises f (a .day) (a .rows) (a .places) (a .q) (a .opens .now) (a .reserves .now) (a .helds .now) bytes (omega (arith, start)) (start .pre .1) (made .streams-of .result) em _ _ _ (ls .lay-sheet .ensures) _ at-s)
+    ∙ ap (λ (y : Stream). answerOf (firstOf (fitsAt (queryOf y (profileOf f y) (take (a .day .count) (made .streams-of .result)) (ls .sum-sheet .last .1 .1 .1 .1 .1 .0) (ls .sum-sheet .last .1 .1 .1 .1 .1 .1 .0) (ls .sum-sheet .last .1 .1 .1 .1 .1 .1 .1 .0) (a .day .disk) (a .day .memory))) (a .q .first) (a .q .last))) ey in
+    rw (sa .start-at .ensures, ey) (appends f (a .day) (a .rows) (a .places) (a .q) (a .opens .now) (a .reserves .now) (a .helds .now) bytes (omega (arith, start)) (start .pre .1) (made .streams-of .result) em _ _ _ (day-sheet _ _ _ _ _ _ _ _ _ (ls .sum-sheet .ensures)) _ at-s)
 
 add-t39 : tie.Need-add-t39
 add-t39 c =
@@ -109,8 +110,8 @@ add-t39 c =
     let at-s =
     sym (fo .found .given .1)
     ∙ fs .first-start .ensures
-    ∙ ap (λ (y : Stream). answerOf (firstOf (fitsAt (queryOf y (profileOf f y) (take (a .day .count) (made .streams-of .result)) (ls .lay-sheet .last .1 .1 .1 .1 .0) (ls .lay-sheet .last .1 .1 .1 .1 .1 .0) (ls .lay-sheet .last .1 .1 .1 .1 .1 .1 .0) (a .day .disk) (a .day .memory))) (a .q .first) (a .q .last))) ey in
-    omega (arith, appendable f (a .day) (a .rows) (a .places) (a .q) (a .opens .now) (a .reserves .now) (a .helds .now) bytes (omega (arith, start)) (start .pre .1) (made .streams-of .result) em _ _ _ (ls .lay-sheet .ensures) _ at-s .count)
+    ∙ ap (λ (y : Stream). answerOf (firstOf (fitsAt (queryOf y (profileOf f y) (take (a .day .count) (made .streams-of .result)) (ls .sum-sheet .last .1 .1 .1 .1 .1 .0) (ls .sum-sheet .last .1 .1 .1 .1 .1 .1 .0) (ls .sum-sheet .last .1 .1 .1 .1 .1 .1 .1 .0) (a .day .disk) (a .day .memory))) (a .q .first) (a .q .last))) ey in
+    omega (arith, appendable f (a .day) (a .rows) (a .places) (a .q) (a .opens .now) (a .reserves .now) (a .helds .now) bytes (omega (arith, start)) (start .pre .1) (made .streams-of .result) em _ _ _ (day-sheet _ _ _ _ _ _ _ _ _ (ls .sum-sheet .ensures)) _ at-s .count)
 
 append-requires : tie.Need-append-requires
 append-requires c κs =
@@ -133,8 +134,8 @@ append-requires c κs =
     let at-s =
     sym (fo .found .given .1)
     ∙ fs .first-start .ensures
-    ∙ ap (λ (y : Stream). answerOf (firstOf (fitsAt (queryOf y (profileOf f y) (take (a .day .count) (made .streams-of .result)) (ls .lay-sheet .last .1 .1 .1 .1 .0) (ls .lay-sheet .last .1 .1 .1 .1 .1 .0) (ls .lay-sheet .last .1 .1 .1 .1 .1 .1 .0) (a .day .disk) (a .day .memory))) (a .q .first) (a .q .last))) ey in
-    let can = appendable f (a .day) (a .rows) (a .places) (a .q) (a .opens .now) (a .reserves .now) (a .helds .now) bytes (omega (arith, start)) (start .pre .1) (made .streams-of .result) em _ _ _ (ls .lay-sheet .ensures) _ at-s in
+    ∙ ap (λ (y : Stream). answerOf (firstOf (fitsAt (queryOf y (profileOf f y) (take (a .day .count) (made .streams-of .result)) (ls .sum-sheet .last .1 .1 .1 .1 .1 .0) (ls .sum-sheet .last .1 .1 .1 .1 .1 .1 .0) (ls .sum-sheet .last .1 .1 .1 .1 .1 .1 .1 .0) (a .day .disk) (a .day .memory))) (a .q .first) (a .q .last))) ey in
+    let can = appendable f (a .day) (a .rows) (a .places) (a .q) (a .opens .now) (a .reserves .now) (a .helds .now) bytes (omega (arith, start)) (start .pre .1) (made .streams-of .result) em _ _ _ (day-sheet _ _ _ _ _ _ _ _ _ (ls .sum-sheet .ensures)) _ at-s in
     (can .count, can .film, can .prefetch, can .reserve, can .start)
 
 enum-told : tie.Need-enum-told
@@ -161,9 +162,9 @@ same-length c =
     let at-s =
     sym (fo .found .given .1)
     ∙ fs .first-start .ensures
-    ∙ ap (λ (y : Stream). answerOf (firstOf (fitsAt (queryOf y (profileOf f y) (take (a .day .count) (made .streams-of .result)) (ls .lay-sheet .last .1 .1 .1 .1 .0) (ls .lay-sheet .last .1 .1 .1 .1 .1 .0) (ls .lay-sheet .last .1 .1 .1 .1 .1 .1 .0) (a .day .disk) (a .day .memory))) (a .q .first) (a .q .last))) ey in
+    ∙ ap (λ (y : Stream). answerOf (firstOf (fitsAt (queryOf y (profileOf f y) (take (a .day .count) (made .streams-of .result)) (ls .sum-sheet .last .1 .1 .1 .1 .1 .0) (ls .sum-sheet .last .1 .1 .1 .1 .1 .1 .0) (ls .sum-sheet .last .1 .1 .1 .1 .1 .1 .1 .0) (a .day .disk) (a .day .memory))) (a .q .first) (a .q .last))) ey in
     let e : added .before .before .before .before .start-at .result ≡ startAt _ (requestOf f (a .q)) = sa .start-at .ensures ∙ ap (startAt _) ey in
-    same-lengths f (a .day) (a .rows) (a .places) (a .q) (a .opens .now) (a .reserves .now) (a .helds .now) bytes (omega (arith, start)) (start .pre .1) (made .streams-of .result) em _ _ _ (ls .lay-sheet .ensures) _ at-s _ _ _ (rw e at (added .add-stream .ensures)) .0
+    same-lengths f (a .day) (a .rows) (a .places) (a .q) (a .opens .now) (a .reserves .now) (a .helds .now) bytes (omega (arith, start)) (start .pre .1) (made .streams-of .result) em _ _ _ (day-sheet _ _ _ _ _ _ _ _ _ (ls .sum-sheet .ensures)) _ at-s _ _ _ (rw e at (added .sum-appended .ensures)) .0
 
 same-length-2 : tie.Need-same-length-2
 same-length-2 c =
@@ -186,9 +187,9 @@ same-length-2 c =
     let at-s =
     sym (fo .found .given .1)
     ∙ fs .first-start .ensures
-    ∙ ap (λ (y : Stream). answerOf (firstOf (fitsAt (queryOf y (profileOf f y) (take (a .day .count) (made .streams-of .result)) (ls .lay-sheet .last .1 .1 .1 .1 .0) (ls .lay-sheet .last .1 .1 .1 .1 .1 .0) (ls .lay-sheet .last .1 .1 .1 .1 .1 .1 .0) (a .day .disk) (a .day .memory))) (a .q .first) (a .q .last))) ey in
+    ∙ ap (λ (y : Stream). answerOf (firstOf (fitsAt (queryOf y (profileOf f y) (take (a .day .count) (made .streams-of .result)) (ls .sum-sheet .last .1 .1 .1 .1 .1 .0) (ls .sum-sheet .last .1 .1 .1 .1 .1 .1 .0) (ls .sum-sheet .last .1 .1 .1 .1 .1 .1 .1 .0) (a .day .disk) (a .day .memory))) (a .q .first) (a .q .last))) ey in
     let e : added .before .before .before .before .start-at .result ≡ startAt _ (requestOf f (a .q)) = sa .start-at .ensures ∙ ap (startAt _) ey in
-    same-lengths f (a .day) (a .rows) (a .places) (a .q) (a .opens .now) (a .reserves .now) (a .helds .now) bytes (omega (arith, start)) (start .pre .1) (made .streams-of .result) em _ _ _ (ls .lay-sheet .ensures) _ at-s _ _ _ (rw e at (added .add-stream .ensures)) .1
+    same-lengths f (a .day) (a .rows) (a .places) (a .q) (a .opens .now) (a .reserves .now) (a .helds .now) bytes (omega (arith, start)) (start .pre .1) (made .streams-of .result) em _ _ _ (day-sheet _ _ _ _ _ _ _ _ _ (ls .sum-sheet .ensures)) _ at-s _ _ _ (rw e at (added .sum-appended .ensures)) .1
 
 same-length-3 : tie.Need-same-length-3
 same-length-3 c =
@@ -211,9 +212,9 @@ same-length-3 c =
     let at-s =
     sym (fo .found .given .1)
     ∙ fs .first-start .ensures
-    ∙ ap (λ (y : Stream). answerOf (firstOf (fitsAt (queryOf y (profileOf f y) (take (a .day .count) (made .streams-of .result)) (ls .lay-sheet .last .1 .1 .1 .1 .0) (ls .lay-sheet .last .1 .1 .1 .1 .1 .0) (ls .lay-sheet .last .1 .1 .1 .1 .1 .1 .0) (a .day .disk) (a .day .memory))) (a .q .first) (a .q .last))) ey in
+    ∙ ap (λ (y : Stream). answerOf (firstOf (fitsAt (queryOf y (profileOf f y) (take (a .day .count) (made .streams-of .result)) (ls .sum-sheet .last .1 .1 .1 .1 .1 .0) (ls .sum-sheet .last .1 .1 .1 .1 .1 .1 .0) (ls .sum-sheet .last .1 .1 .1 .1 .1 .1 .1 .0) (a .day .disk) (a .day .memory))) (a .q .first) (a .q .last))) ey in
     let e : added .before .before .before .before .start-at .result ≡ startAt _ (requestOf f (a .q)) = sa .start-at .ensures ∙ ap (startAt _) ey in
-    same-lengths f (a .day) (a .rows) (a .places) (a .q) (a .opens .now) (a .reserves .now) (a .helds .now) bytes (omega (arith, start)) (start .pre .1) (made .streams-of .result) em _ _ _ (ls .lay-sheet .ensures) _ at-s _ _ _ (rw e at (added .add-stream .ensures)) .2
+    same-lengths f (a .day) (a .rows) (a .places) (a .q) (a .opens .now) (a .reserves .now) (a .helds .now) bytes (omega (arith, start)) (start .pre .1) (made .streams-of .result) em _ _ _ (day-sheet _ _ _ _ _ _ _ _ _ (ls .sum-sheet .ensures)) _ at-s _ _ _ (rw e at (added .sum-appended .ensures)) .2
 
 returns : tie.Need-returns
 returns c =
@@ -236,9 +237,9 @@ returns c =
     let at-s =
     sym (fo .found .given .1)
     ∙ fs .first-start .ensures
-    ∙ ap (λ (y : Stream). answerOf (firstOf (fitsAt (queryOf y (profileOf f y) (take (a .day .count) (made .streams-of .result)) (ls .lay-sheet .last .1 .1 .1 .1 .0) (ls .lay-sheet .last .1 .1 .1 .1 .1 .0) (ls .lay-sheet .last .1 .1 .1 .1 .1 .1 .0) (a .day .disk) (a .day .memory))) (a .q .first) (a .q .last))) ey in
+    ∙ ap (λ (y : Stream). answerOf (firstOf (fitsAt (queryOf y (profileOf f y) (take (a .day .count) (made .streams-of .result)) (ls .sum-sheet .last .1 .1 .1 .1 .1 .0) (ls .sum-sheet .last .1 .1 .1 .1 .1 .1 .0) (ls .sum-sheet .last .1 .1 .1 .1 .1 .1 .1 .0) (a .day .disk) (a .day .memory))) (a .q .first) (a .q .last))) ey in
     let e : added .before .before .before .before .start-at .result ≡ startAt _ (requestOf f (a .q)) = sa .start-at .ensures ∙ ap (startAt _) ey in
-    rw (c .append .ensures) (leaves-at f (a .day) (a .rows) (a .places) (a .q) (a .opens .now) (a .reserves .now) (a .helds .now) bytes (omega (arith, start)) (start .pre .1) (made .streams-of .result) em _ _ _ (ls .lay-sheet .ensures) _ at-s _ _ _ (rw e at (added .add-stream .ensures)))
+    rw (c .append .ensures) (leaves-at f (a .day) (a .rows) (a .places) (a .q) (a .opens .now) (a .reserves .now) (a .helds .now) bytes (omega (arith, start)) (start .pre .1) (made .streams-of .result) em _ _ _ (day-sheet _ _ _ _ _ _ _ _ _ (ls .sum-sheet .ensures)) _ at-s _ _ _ (rw e at (added .sum-appended .ensures)))
 
 same-length-4 : tie.Need-same-length-4
 same-length-4 c = search needs
@@ -267,20 +268,20 @@ returns-2 c =
     let at-s =
     sym (c .enum-told .given .1)
     ∙ fs .first-start .ensures
-    ∙ ap (λ (y : Stream). answerOf (firstOf (fitsAt (queryOf y (profileOf f y) (take (a .day .count) (made .streams-of .result)) (ls .lay-sheet .last .1 .1 .1 .1 .0) (ls .lay-sheet .last .1 .1 .1 .1 .1 .0) (ls .lay-sheet .last .1 .1 .1 .1 .1 .1 .0) (a .day .disk) (a .day .memory))) (a .q .first) (a .q .last))) ey in
-    leaves-none f (a .day) (a .rows) (a .places) (a .q) (a .opens .now) (a .reserves .now) (a .helds .now) bytes (omega (arith, start)) (start .pre .1) (made .streams-of .result) em _ _ _ (ls .lay-sheet .ensures) at-s
+    ∙ ap (λ (y : Stream). answerOf (firstOf (fitsAt (queryOf y (profileOf f y) (take (a .day .count) (made .streams-of .result)) (ls .sum-sheet .last .1 .1 .1 .1 .1 .0) (ls .sum-sheet .last .1 .1 .1 .1 .1 .1 .0) (ls .sum-sheet .last .1 .1 .1 .1 .1 .1 .1 .0) (a .day .disk) (a .day .memory))) (a .q .first) (a .q .last))) ey in
+    leaves-none f (a .day) (a .rows) (a .places) (a .q) (a .opens .now) (a .reserves .now) (a .helds .now) bytes (omega (arith, start)) (start .pre .1) (made .streams-of .result) em _ _ _ (day-sheet _ _ _ _ _ _ _ _ _ (ls .sum-sheet .ensures)) at-s
 
 pub place-spec : {M : Type 1} → statement M
 place-spec =
     tie.close
     (tie.spec
     streams-of-requires
-    lay-sheet-requires
+    sum-sheet-requires
     requested-requires
     first-start-requires
     enum-known-found
     start-at-requires
-    add-stream-requires
+    sum-appended-requires
     add-t39
     append-requires
     enum-told

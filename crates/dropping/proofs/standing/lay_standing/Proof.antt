@@ -2,19 +2,19 @@
 -- bookings do. Assumes nothing.
 use native.Mathlib.Omega.{arith}
 use borrow.Author.Needs.{needs}
-use Rattle.dropping.specs.StandingLaws.{stands-lays, laid-worked}
+use Rattle.dropping.specs.StandingLaws.{stands-summable, summed-worked}
 use Rattle.dropping.proofs.standing.lay_standing.Statement.{statement}
 use Rattle.dropping.proofs.standing.lay_standing.Tie as tie
 
 streams-of-requires : tie.Need-streams-of-requires
 streams-of-requires c κs = search needs
 
-lay-sheet-requires : tie.Need-lay-sheet-requires
-lay-sheet-requires c κs =
+sum-sheet-requires : tie.Need-sum-sheet-requires
+sum-sheet-requires c κs =
     let made = c .before .before .before in
     let start = made .before .before .before .before .before in
     let a = start .args in
-    stands-lays (a .file .now) (a .c) (a .day) (a .rows) (a .count) (a .opens .now) (a .reserves .now) (a .helds .now) (start .pre) (omega arith)
+    stands-summable (a .file .now) (a .c) (a .day) (a .rows) (a .count) (a .opens .now) (a .reserves .now) (a .helds .now) (start .pre) (omega arith)
     (made .streams-of .result) (made .streams-of .ensures)
 
 same-length : tie.Need-same-length
@@ -32,16 +32,16 @@ returns c =
     let made = laid .before .before .before .before in
     let start = made .before .before .before .before .before in
     let a = start .args in
-    let after = laid .lay-sheet .last .1 .1 .1 .1 in
-    laid-worked (a .file .now) (a .c) (a .day) (a .rows) (a .count) (a .opens .now) (a .reserves .now) (a .helds .now) (start .pre) (omega (arith, start))
-    (made .streams-of .result) (made .streams-of .ensures) (after .0) (after .1 .0) (after .1 .1 .0) (laid .lay-sheet .ensures)
+    let after = laid .sum-sheet .last .1 .1 .1 .1 .1 in
+    summed-worked (a .file .now) (a .c) (a .day) (a .rows) (a .count) (a .opens .now) (a .reserves .now) (a .helds .now) (start .pre) (omega (arith, start))
+    (made .streams-of .result) (made .streams-of .ensures) (after .0) (after .1 .0) (after .1 .1 .0) (laid .sum-sheet .ensures)
 
 pub lay-standing-spec : {M : Type 1} → statement M
 lay-standing-spec =
     tie.close
     (tie.spec
     streams-of-requires
-    lay-sheet-requires
+    sum-sheet-requires
     same-length
     same-length-2
     same-length-3

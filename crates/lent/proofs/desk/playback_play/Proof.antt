@@ -48,13 +48,13 @@ use Rattle.interface.specs.Rounds.{Rounds}
 use Rattle.interface.specs.DeskLaws.{play-over}
 use Rattle.model.proofs.Answer as An
 use Rattle.model.proofs.Answer.Laws as An′
-use Rattle.interface.specs.declared.rounds.Round.{Round}
-use Rattle.interface.proofs.rounds.Round as O
-use Rattle.interface.proofs.rounds.Round.Laws as O′
-use Rattle.interface.proofs.rounds.play_round as bk
-use Rattle.interface.proofs.rounds.play_round.Symbol as core-def
-use Rattle.interface.proofs.rounds.play_round.Symbol.{name as #interface·rounds·play-round}
-use Rattle.interface.proofs.rounds.play_round.Met as core-thm
+use Rattle.interface.specs.declared.play_call.Round.{Round}
+use Rattle.interface.proofs.play_call.Round as O
+use Rattle.interface.proofs.play_call.Round.Laws as O′
+use Rattle.interface.proofs.play_call.play_round as bk
+use Rattle.interface.proofs.play_call.play_round.Symbol as core-def
+use Rattle.interface.proofs.play_call.play_round.Symbol.{name as #interface·rounds·play-round}
+use Rattle.interface.proofs.play_call.play_round.Met as core-thm
 use Rattle.interface.specs.Records.{loaded, stored}
 use Rattle.interface.specs.DeskCalls.{PlaysOver}
 use Rattle.interface.specs.Reply.{replyOf}
@@ -223,6 +223,6 @@ playback-play-spec 𝓤 H 𝓜 𝓖 𝓡 =
     (tables 𝓤 H 𝓜 𝓡 code.env .C) (tables 𝓤 H 𝓜 𝓡 code.env .Λ) #lent·desk·playback-play code.function (code.unfolded 𝓤 H 𝓜 𝓡)
     (meets 𝓤 H (𝓖 .A) (givenOf 𝓤 H 𝓜 𝓖) (𝓜 .mem) (𝓡 .run) (tablesOf 𝓤 H 𝓜 (tables 𝓤 H 𝓜 𝓡 code.env))
     (cited 𝓤 H (Load 𝓤 H (𝓖 .A) (𝓜 .mem) (𝓡 .run)) 𝓜 𝓡 code.env #lent·records·load load-def.routine code.calls-lent·records·load (load-thm.met 𝓤 H 𝓜 𝓖 𝓡))
-    (cited 𝓤 H (Core 𝓤 H (𝓖 .A) (𝓜 .mem) (𝓡 .run)) 𝓜 𝓡 code.env #interface·rounds·play-round core-def.routine code.calls-interface·rounds·play-round (core-thm.met 𝓤 H 𝓜 𝓖 𝓡))
+    (cited 𝓤 H (Core 𝓤 H (𝓖 .A) (𝓜 .mem) (𝓡 .run)) 𝓜 𝓡 code.env #interface·rounds·play-round core-def.routine code.calls-interface·play-call·play-round (core-thm.met 𝓤 H 𝓜 𝓖 𝓡))
     (cited 𝓤 H (Write 𝓤 H (𝓖 .A) (𝓜 .mem) (𝓡 .run)) 𝓜 𝓡 code.env #lent·records·write write-def.routine code.calls-lent·records·write (write-thm.met 𝓤 H 𝓜 𝓖 𝓡))
     (cited 𝓤 H (ReplyOf 𝓤 H (𝓖 .A) (𝓜 .mem) (𝓡 .run)) 𝓜 𝓡 code.env #interface·reply·reply-of reply-def.routine code.calls-interface·reply·reply-of (reply-thm.met 𝓤 H 𝓜 𝓖 𝓡)))

@@ -48,7 +48,7 @@ streams-sound-requires c κs =
     let passed = sym (c .before .all-basic .ensures) ∙ not-false _ (c .if2 .left) in
     let good = streams-playable (a .file .now) (a .day) (a .rows) (a .count) (made .result) (start .pre .1) (start .pre .2) (omega arith)
     (made .ensures ∙ ap (λ (k : Catalogue). streamsOf k (a .count) (a .rows)) (start .pre .0)) (start .pre .3) passed in
-    (start .pre .2, good .0, good .1)
+    record { few = start .pre .2; playable = good .0; day = start .pre .3 }
 
 returns-3 : tie.Need-returns-3
 returns-3 c =

@@ -1,0 +1,96 @@
+// Whether every round keeps the limits, and no cab shows two films in a round.
+use crate::block::BLOCK_WORDS;
+use crate::block::Block;
+use crate::block::look;
+use crate::marks::MARK_WORDS;
+use crate::marks::mark_streams;
+use crate::sums::Sums;
+use crate::sums::round_sums;
+use limits::bounds::MAX_BOOKINGS;
+use load::stream::Stream;
+ghost use mathlib.Core.Path.{_≡_};
+ghost use Prim.Native.Nat.{_≤_};
+ghost use lib.ListN.{take};
+ghost use Rattle.limits.specs.Bounds.{maxBookings};
+ghost use Rattle.laws.specs.Tests.{below};
+ghost use Rattle.loss.specs.Loss.{lossAt};
+ghost use Rattle.rounds.specs.Sums.{IsBlock};
+ghost use Rattle.rounds.specs.Kept.{keptIn, sumsKept, lossIn, Losses, BlockKept, Testable};
+
+// losses of 0 to 256 films
+const LOSSES: usize = 257;
+
+// The loss of each number of films that may be open.
+fn losses() -> [u64; LOSSES]
+    ensures { λ r. ⌜ Losses r ⌝ }
+{
+    let mut list = [0u64; LOSSES];
+    let mut k = 0;
+    while k < LOSSES {
+        list[k] = loss::loss(k as u64);
+        k += 1;
+    }
+    list
+}
+
+// Whether a round with these sums keeps the limits and shows no cab two films.
+fn sums_kept(s: Sums, losses: &[u64], disk: u64, memory: u64) -> bool
+    requires { ⌜ (s .films ≤ maxBookings) × Losses (now losses) ⌝ }
+    ensures { λ r. ⌜ r ≡ sumsKept (lossIn (now (losses .entry))) disk memory s ⌝ }
+{
+    let k = s.films as usize;
+    if disk < s.reserves {
+        return false;
+    }
+    if disk - s.reserves < losses[k] {
+        return false;
+    }
+    if memory < s.held {
+        return false;
+    }
+    s.twice == 0
+}
+
+// Whether the block's rounds are kept.
+fn block_kept(words: &[u64], b: Block, losses: &[u64], disk: u64, memory: u64) -> bool
+    requires { ⌜ IsBlock b (now words) × Losses (now losses) ⌝ }
+    ensures { λ r. ⌜ BlockKept b (now (words .entry)) (now (losses .entry)) disk memory r ⌝ }
+{
+    let mut k = 0;
+    while k < b.rounds {
+        let s = round_sums(words, b, k);
+        if !sums_kept(s, losses, disk, memory) {
+            return false;
+        }
+        k += 1;
+    }
+    true
+}
+
+// Whether in every round of a day of T rounds the reserves of the open bookings and the loss of their number are at most the disk limit,
+// what they hold is at most the memory limit, and no cab shows two films.
+pub fn rounds_kept(
+    file: &[u8],
+    xs: [Stream; MAX_BOOKINGS],
+    count: usize,
+    day_rounds: usize,
+    disk: u64,
+    memory: u64,
+) -> bool
+    requires { ⌜ Testable (now file) xs count «day_rounds» ⌝ }
+    ensures { λ r. ⌜ r ≡ below «day_rounds» (keptIn (now (file .entry)) lossAt disk memory (take count xs)) ⌝ }
+{
+    let mut marks = [0u64; MARK_WORDS];
+    mark_streams(file, xs, count, &mut marks);
+    let lost = losses();
+    let mut words = [0u64; BLOCK_WORDS];
+    let mut t = 0;
+    while t < day_rounds {
+        let b = look(file, xs, count, &marks, t, day_rounds, &mut words);
+        if !block_kept(&words, b, &lost, disk, memory) {
+            return false;
+        }
+        t += b.rounds;
+    }
+    true
+}
