@@ -7,6 +7,7 @@ use native.Mathlib.Omega.{arith}
 use lib.ListN.{length, take}
 use Rattle.limits.specs.Bounds.{maxBookings, maxDay}
 use Rattle.laws.specs.Tests.{left, right, all}
+use Rattle.loss.specs.Loss.{lossAt}
 use Rattle.films.specs.Questions.{verdict}
 use Rattle.films.specs.Catalogue.{catalogueOf}
 use Rattle.model.specs.Soundness.{namesDiffer, soundList}
@@ -20,7 +21,8 @@ use Rattle.load.specs.declared.stream.Stream.{Stream}
 use Rattle.questions.specs.Given.{settingAt}
 use Rattle.questions.specs.Tied.{AllTied}
 use Rattle.questions.specs.Ties.{streams-tied}
-use Rattle.questions.specs.Sound.{streamsSound, sound-streams, each-playable}
+use Rattle.rounds.specs.Kept.{streamsKept}
+use Rattle.questions.specs.Sound.{sound-streams, each-playable}
 
 module _ (f : List ℕ) (day : Day) (rows : List Booking) (n : ℕ) (xs : List Stream) (accepted : verdict f ≡ 0) (few : n ≤ maxBookings)
     (there : n ≤ length rows) (made : xs ≡ streamsOf (catalogueOf f) n rows) where
@@ -35,7 +37,7 @@ module _ (f : List ℕ) (day : Day) (rows : List Booking) (n : ℕ) (xs : List S
 
   pub list-sound : soundList (settingAt f day) (take n rows)
       ≡ namesDiffer (take n rows)
-      && (all (basicOf (day .rounds)) (take n xs) && streamsSound f (day .rounds) (day .disk) (day .memory) (take n xs))
+      && (all (basicOf (day .rounds)) (take n xs) && streamsKept f lossAt (day .rounds) (day .disk) (day .memory) (take n xs))
   list-sound =
       sound-streams (settingAt f day) f refl (take n rows) (take n xs) all-tied-taken
 
@@ -49,5 +51,5 @@ module _ (f : List ℕ) (day : Day) (rows : List Booking) (n : ℕ) (xs : List S
       → EachOf (Playable f) n xs × EachOf (Within (day .rounds)) n xs
   sound-playable h e =
       streams-playable h
-      (left (all (basicOf (day .rounds)) (take n xs)) (streamsSound f (day .rounds) (day .disk) (day .memory) (take n xs))
+      (left (all (basicOf (day .rounds)) (take n xs)) (streamsKept f lossAt (day .rounds) (day .disk) (day .memory) (take n xs))
       (right (namesDiffer (take n rows)) (sym list-sound ∙ e)))

@@ -14,29 +14,20 @@ use Rattle.limits.specs.Bounds.{maxDay, maxPrefetch, maxReserve}
 use Rattle.films.specs.Sizes.{Stored}
 use Rattle.laws.specs.Tests.{left, right, all, all-at, below}
 use Rattle.loss.specs.Loss.{lossAt}
-use Rattle.retrieval.specs.JustInTime.{existsBy}
 use Rattle.model.specs.Day.{Setting, cabsAt, exists}
 use Rattle.model.specs.Soundness.{namesDiffer, apart, roundKept, limitsKept, soundList}
 use Rattle.model.specs.SoundTest.{basic, sound-test}
 use Rattle.model.specs.declared.Booking.{Booking}
-use Rattle.load.specs.Stream.{noStream, endOf, sendsOf}
+use Rattle.load.specs.Stream.{noStream, endOf}
 use Rattle.load.specs.Basic.{basicOf, endsBy, Bounded, Playable, Within, EachOf}
 use Rattle.load.specs.declared.stream.Stream.{Stream}
-use Rattle.rounds.specs.Kept.{cabsIn, apartIn, keptIn}
+use Rattle.rounds.specs.Kept.{cabsIn, apartIn, keptIn, feasible, streamsKept}
 use Rattle.questions.specs.Tied.{AllTied, all-tied, tied-shows, opened-tied, reserved-tied, held-tied, basic-tied, exists-tied}
 
 -- two tests that agree below n
 pub below-same : (n : ℕ) (g h : ℕ → Bool) → ((j : ℕ) → j < n → g j ≡ h j) → below n g ≡ below n h
 below-same zero g h e = refl
 below-same (suc n) g h e = ap₂ (λ (u v : Bool). u && v) (e n (omega arith)) (below-same n g h (λ j k. e j (omega arith)))
-
--- 12: "Does a schedule exist?"
-unfoldable pub feasible : List ℕ → Stream → Bool
-feasible f x = existsBy (x .reserve) (sendsOf f x)
-
--- the tests of the streams that the code makes, in its order
-abbrev pub streamsSound : List ℕ → ℕ → ℕ → ℕ → List Stream → Bool
-streamsSound f T D M xs = all (feasible f) xs && below T (keptIn f lossAt D M xs)
 
 module _ (S : Setting) (f : List ℕ) (loss : S .loss ≡ lossAt) where
   -- cabs busy in a round
@@ -62,7 +53,7 @@ module _ (S : Setting) (f : List ℕ) (loss : S .loss ≡ lossAt) where
     unfolding limitsKept
     limits-tied = below-same (S .rounds) (roundKept S bs) (keptIn f lossAt (S .disk) (S .memory) xs) (λ t u. kept-tied t)
 
-    pub sound-streams : soundList S bs ≡ namesDiffer bs && (all (basicOf (S .rounds)) xs && streamsSound f (S .rounds) (S .disk) (S .memory) xs)
+    pub sound-streams : soundList S bs ≡ namesDiffer bs && (all (basicOf (S .rounds)) xs && streamsKept f lossAt (S .rounds) (S .disk) (S .memory) xs)
     sound-streams =
         sound-test S bs
         ∙ ap (λ (v : Bool). namesDiffer bs && v)

@@ -3,11 +3,9 @@ use films::types::Catalogue;
 use limits::bounds::MAX_BOOKINGS;
 use load::names::names_differ;
 use load::records::all_basic;
-use load::stream::Stream;
 use load::stream::streams_of;
 use model::Booking;
 use model::Day;
-use retrieval::exists;
 use rounds::kept::rounds_kept;
 ghost use mathlib.Core.Path.{_≡_};
 ghost use Prim.Native.Nat.{_≤_};
@@ -15,47 +13,9 @@ ghost use lib.ListN.{take};
 ghost use Rattle.limits.specs.Bounds.{maxBookings, maxDay};
 ghost use Rattle.films.specs.Questions.{verdict};
 ghost use Rattle.films.specs.Catalogue.{catalogueOf};
-ghost use Rattle.laws.specs.Tests.{all};
-ghost use Rattle.load.specs.Basic.{Playable, EachOf};
-ghost use Rattle.rounds.specs.Kept.{Testable};
 ghost use Rattle.model.specs.Soundness.{soundList};
-ghost use Rattle.questions.specs.Sound.{feasible, streamsSound};
 ghost use Rattle.questions.specs.Given.{settingAt};
 ghost use Rattle.questions.specs.Numbers.{soundHolds};
-
-// Whether each of the first `count` streams has a schedule.
-fn all_feasible(file: &[u8], xs: [Stream; MAX_BOOKINGS], count: usize) -> bool
-    requires { ⌜ (count ≤ maxBookings) × EachOf (Playable (now file)) count xs ⌝ }
-    ensures { λ r. ⌜ r ≡ all (feasible (now (file .entry))) (take count xs) ⌝ }
-{
-    let mut i = 0;
-    while i < count {
-        let x = xs[i];
-        if !exists(file, x.at, x.rounds, x.prefetch, x.reserve) {
-            return false;
-        }
-        i += 1;
-    }
-    true
-}
-
-// Whether each stream has a schedule, every round keeps the limits and no cab shows two films.
-fn streams_sound(
-    file: &[u8],
-    xs: [Stream; MAX_BOOKINGS],
-    count: usize,
-    rounds: usize,
-    disk: u64,
-    memory: u64,
-) -> bool
-    requires { ⌜ Testable (now file) xs count rounds ⌝ }
-    ensures { λ r. ⌜ r ≡ streamsSound (now (file .entry)) rounds disk memory (take count xs) ⌝ }
-{
-    if !all_feasible(file, xs, count) {
-        return false;
-    }
-    rounds_kept(file, xs, count, rounds, disk, memory)
-}
 
 // Is the list of the first `count` bookings sound? The file is accepted, and c is its catalogue.
 pub fn sound_list(
@@ -75,7 +35,7 @@ pub fn sound_list(
     if !all_basic(xs, count, day.rounds) {
         return false;
     }
-    streams_sound(file, xs, count, day.rounds as usize, day.disk, day.memory)
+    rounds_kept(file, xs, count, day.rounds as usize, day.disk, day.memory)
 }
 
 // Is the list sound? At most 256 records, within the list's places, and sound.

@@ -6,10 +6,12 @@ use Prim.Native.Nat.{ℕ, zero, suc, _+_, _≤_, _<_}
 use lib.Dec.{leb, eqb}
 use lib.Bits.{bitAnd, bitOr}
 use lib.ListN.{length, getD}
+use Rattle.laws.specs.Tests.{all, below}
+use Rattle.retrieval.specs.JustInTime.{existsBy}
 use Rattle.limits.specs.Bounds.{maxBookings, maxDay}
 use Rattle.loss.specs.Loss.{lossAt}
 use Rattle.load.specs.Basic.{Playable, EachOf}
-use Rattle.load.specs.Stream.{showsIn, openCount, reservedIn, heldIn}
+use Rattle.load.specs.Stream.{showsIn, openCount, reservedIn, heldIn, sendsOf}
 use Rattle.load.specs.declared.stream.Stream.{Stream}
 use Rattle.rounds.specs.Rows.{BlockOf}
 use Rattle.rounds.specs.Sums.{sumsIn}
@@ -28,6 +30,14 @@ apartIn t taken (x ∷ xs) = eqb (bitAnd taken (cabsIn t x)) 0 && apartIn t (bit
 -- "In each round reserves + loss(films open) ≤ D and held ≤ M, and no cab shows two films."
 unfoldable pub keptIn : List ℕ → (ℕ → ℕ) → ℕ → ℕ → List Stream → ℕ → Bool
 keptIn f loss D M xs t = leb (reservedIn t xs + loss (openCount t xs)) D && (leb (heldIn f t xs) M && apartIn t 0 xs)
+
+-- 12: "Does a schedule exist?"
+unfoldable pub feasible : List ℕ → Stream → Bool
+feasible f x = existsBy (x .reserve) (sendsOf f x)
+
+-- each booking has a schedule, and every round of a day of T rounds is kept
+abbrev pub streamsKept : List ℕ → (ℕ → ℕ) → ℕ → ℕ → ℕ → List Stream → Bool
+streamsKept f loss T D M xs = all (feasible f) xs && below T (keptIn f loss D M xs)
 
 -- the same of a round's sums
 unfoldable pub sumsKept : (ℕ → ℕ) → ℕ → ℕ → Sums → Bool

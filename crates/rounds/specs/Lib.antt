@@ -12,4 +12,5 @@ pub mod SumLaws
 pub mod SheetLaws
 pub mod DaySheetLaws
 pub mod KeptLaws
+pub mod FeasibleLaws
 pub mod Figures

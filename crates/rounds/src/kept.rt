@@ -3,19 +3,23 @@ use crate::block::BLOCK_WORDS;
 use crate::block::Block;
 use crate::block::look;
 use crate::marks::MARK_WORDS;
+use crate::marks::MARKS;
 use crate::marks::mark_streams;
 use crate::sums::Sums;
 use crate::sums::round_sums;
 use limits::bounds::MAX_BOOKINGS;
 use load::stream::Stream;
 ghost use mathlib.Core.Path.{_≡_};
-ghost use Prim.Native.Nat.{_≤_};
-ghost use lib.ListN.{take};
+ghost use mathlib.Core.List.{List};
+ghost use Prim.Native.Nat.{ℕ, _*_, _≤_};
+ghost use lib.ListN.{length, take};
 ghost use Rattle.limits.specs.Bounds.{maxBookings};
-ghost use Rattle.laws.specs.Tests.{below};
+ghost use Rattle.laws.specs.Tests.{all};
+ghost use Rattle.load.specs.declared.stream.Stream.{Stream};
+ghost use Rattle.rounds.specs.Table.{markCount, Marked};
 ghost use Rattle.loss.specs.Loss.{lossAt};
 ghost use Rattle.rounds.specs.Sums.{IsBlock};
-ghost use Rattle.rounds.specs.Kept.{keptIn, sumsKept, lossIn, Losses, BlockKept, Testable};
+ghost use Rattle.rounds.specs.Kept.{feasible, streamsKept, sumsKept, lossIn, Losses, BlockKept, Testable};
 
 // losses of 0 to 256 films
 const LOSSES: usize = 257;
@@ -67,7 +71,23 @@ fn block_kept(words: &[u64], b: Block, losses: &[u64], disk: u64, memory: u64) -
     true
 }
 
-// Whether in every round of a day of T rounds the reserves of the open bookings and the loss of their number are at most the disk limit,
+// Whether each of the first `count` bookings has a schedule: its first mark says that nothing is left to be read before its start.
+fn all_feasible(marks: &[u64], count: usize) -> bool
+    requires { ⌜ markCount * count ≤ length (now marks) ⌝ }
+    ensures { λ r. ⌜ ((f : List ℕ) (xs : List Stream) → count ≤ length xs → Marked f xs count (now (marks .entry)) → r ≡ all (feasible f) (take count xs)) ⌝ }
+{
+    let mut i = 0;
+    while i < count {
+        let first = marks[MARKS * i];
+        if first != 0 {
+            return false;
+        }
+        i += 1;
+    }
+    true
+}
+
+// Whether each booking has a schedule, and in every round of a day of T rounds the reserves of the open bookings and the loss of their number are at most the disk limit,
 // what they hold is at most the memory limit, and no cab shows two films.
 pub fn rounds_kept(
     file: &[u8],
@@ -78,10 +98,13 @@ pub fn rounds_kept(
     memory: u64,
 ) -> bool
     requires { ⌜ Testable (now file) xs count «day_rounds» ⌝ }
-    ensures { λ r. ⌜ r ≡ below «day_rounds» (keptIn (now (file .entry)) lossAt disk memory (take count xs)) ⌝ }
+    ensures { λ r. ⌜ r ≡ streamsKept (now (file .entry)) lossAt «day_rounds» disk memory (take count xs) ⌝ }
 {
     let mut marks = [0u64; MARK_WORDS];
     mark_streams(file, xs, count, &mut marks);
+    if !all_feasible(&marks, count) {
+        return false;
+    }
     let lost = losses();
     let mut words = [0u64; BLOCK_WORDS];
     let mut t = 0;

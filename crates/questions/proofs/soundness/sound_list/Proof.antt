@@ -40,8 +40,8 @@ returns-2 c =
     let no = sym (c .before .all-basic .ensures) ∙ not-true _ (c .if2 .taken) in
     sym (sound ∙ rw (yes, no))
 
-streams-sound-requires : tie.Need-streams-sound-requires
-streams-sound-requires c κs =
+rounds-kept-requires : tie.Need-rounds-kept-requires
+rounds-kept-requires c κs =
     let start = c .before .before .before .before .before .before in
     let a = start .args in
     let made = c .before .before .streams-of in
@@ -61,7 +61,7 @@ returns-3 c =
     (made .ensures ∙ ap (λ (k : Catalogue). streamsOf k (a .count) (a .rows)) (start .pre .0)) in
     let yes = sym (one .before .names-differ .ensures) ∙ not-false _ (one .if1 .left) in
     let passed = sym (two .before .all-basic .ensures) ∙ not-false _ (two .if2 .left) in
-    sym (sound ∙ rw (yes, passed) (sym (c .streams-sound .ensures)))
+    sym (sound ∙ rw (yes, passed) (sym (c .rounds-kept .ensures)))
 
 pub sound-list-spec : {M : Type 1} → statement M
 sound-list-spec =
@@ -72,5 +72,5 @@ sound-list-spec =
     streams-of-requires
     all-basic-requires
     returns-2
-    streams-sound-requires
+    rounds-kept-requires
     returns-3)
