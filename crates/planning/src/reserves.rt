@@ -18,8 +18,8 @@ use limits::bounds::MAX_PREFETCH;
 use limits::refusals::CAP;
 use limits::refusals::NO_FILM;
 use limits::refusals::PREFETCH;
+use retrieval::carry_before;
 use retrieval::larger;
-use retrieval::less;
 
 // The answer of a call for a least reserve: a refusal's number, or the bytes per round.
 pub enum Reserve {
@@ -54,7 +54,7 @@ fn serves(file: &[u8], at: usize, n: usize, p: usize, cap: u64, b: u64) -> bool
         if cap < held {
             return false;
         }
-        c = less(held, b);
+        c = carry_before(held, b);
     }
     c <= (p as u64) * b
 }

@@ -22,7 +22,6 @@ use limits::refusals::PREFETCH;
 use limits::refusals::RESERVE;
 use retrieval::exists;
 use retrieval::larger;
-use retrieval::less;
 use retrieval::send_at;
 
 // The answer of a call for a schedule: a refusal's number, or how many totals are written.
@@ -56,7 +55,7 @@ fn write_totals(out: &mut [u64], file: &[u8], at: usize, n: usize, p: usize, b: 
     let mut k = p + n;
     while 0 < k {
         k -= 1;
-        due = larger(sent, less(due, b));
+        due = larger(sent + b, due) - b;
         out[k] = due;
         sent -= send_at(file, at, n, p, k);
     }

@@ -9,6 +9,7 @@ pub mod Stored
 pub mod Round
 pub mod Sheet
 pub mod Theorems
+pub mod Larger
 pub mod Figures
 pub mod Laws
 pub mod CarryLaws

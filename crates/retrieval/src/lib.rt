@@ -2,7 +2,7 @@
 // Each is one pass backward over the sizes, with no buffer. The film's n sizes stand at offset `at`, p is its pre-fetch rounds
 // and b its reserve in bytes per round; rounds are counted from its start.
 ghost use mathlib.Core.Path.{_≡_};
-ghost use Prim.Native.Nat.{_+_, _-_, _≤_, _<_, min, max};
+ghost use Prim.Native.Nat.{_+_, _-_, _^_, _≤_, _<_, min, max};
 ghost use lib.ListN.{getD, drop};
 ghost use Rattle.limits.specs.Bounds.{maxSize};
 ghost use Rattle.films.specs.Sizes.{Stored};
@@ -21,18 +21,25 @@ pub struct Round {
     pub held: u64,
 }
 
-// a less b, and 0 where b is more.
-pub fn less(a: u64, b: u64) -> u64
-    ensures { λ r. ⌜ r ≡ a - b ⌝ }
-{
-    if b < a { a - b } else { 0 }
-}
+// half of the numbers that 64 bits take
+const HALF: u64 = 9223372036854775808;
 
-// The larger of two.
+// The larger of two totals, by arithmetic alone: d is their difference above 2^63, so that d / 2^63 is 1 exactly if b is at most a, and
+// d % 2^63 is then what a is more.
 pub fn larger(a: u64, b: u64) -> u64
+    requires { ⌜ (a < 2 ^ 63) × (b < 2 ^ 63) ⌝ }
     ensures { λ r. ⌜ r ≡ max a b ⌝ }
 {
-    if a < b { b } else { a }
+    let d = a + HALF - b;
+    b + (d % HALF) * (d / HALF)
+}
+
+// What a round that holds so much leaves to be read before it, at b bytes in the round: the rule's step from a round to the one before.
+pub fn carry_before(held: u64, b: u64) -> u64
+    requires { ⌜ (held < 2 ^ 63) × (b < 2 ^ 63) ⌝ }
+    ensures { λ r. ⌜ r ≡ held - b ⌝ }
+{
+    larger(held, b) - b
 }
 
 // The smaller of two.
@@ -62,7 +69,7 @@ fn carry_from(file: &[u8], at: usize, n: usize, p: usize, b: u64, t: usize) -> u
     let mut k = p + n;
     while t < k {
         k -= 1;
-        c = less(send_at(file, at, n, p, k) + c, b);
+        c = carry_before(send_at(file, at, n, p, k) + c, b);
     }
     c
 }
@@ -87,7 +94,7 @@ pub fn peak(file: &[u8], at: usize, n: usize, p: usize, b: u64) -> u64
         i -= 1;
         let h = size_at(file, at + 4 * i) + c;
         most = larger(most, h);
-        c = less(h, b);
+        c = carry_before(h, b);
     }
     most
 }
@@ -115,7 +122,7 @@ pub fn add_held(
         k -= 1;
         let h = send_at(file, at, n, p, k) + left;
         part[k - a] = part[k - a] + h;
-        left = less(h, b);
+        left = carry_before(h, b);
     }
     left
 }

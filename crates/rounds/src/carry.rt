@@ -2,7 +2,7 @@
 // out from the later rounds to the earlier.
 use load::stream::Stream;
 use load::stream::open_in;
-use retrieval::less;
+use retrieval::carry_before;
 use retrieval::send_at;
 ghost use mathlib.Core.Path.{_≡_};
 ghost use Prim.Native.Nat.{_+_, _^_, _<_};
@@ -27,7 +27,7 @@ pub fn held_in(file: &[u8], x: Stream, t: usize, carry: u64) -> Held
     let held = send_at(file, x.at, x.rounds, x.prefetch, t - x.start) + carry;
     Held {
         held,
-        carry: less(held, x.reserve),
+        carry: carry_before(held, x.reserve),
     }
 }
 

@@ -84,8 +84,14 @@ mul-part-2 c = search needs
 slice-write-part : tie.Need-slice-write-part Inv-loop μ-loop
 slice-write-part c = search needs
 
-less-requires : tie.Need-less-requires Inv-loop μ-loop
-less-requires c κs = search needs
+carry-before-requires : tie.Need-carry-before-requires Inv-loop μ-loop
+carry-before-requires c κs =
+    let start = c .before .before .before .before .before .before in
+    let a = start .args in
+    let l = c .before .before .before .loop in
+    let x = c .before .send-at in
+    let held = window-held (a .file .now) (a .at) (a .n) (a .p) (a .b) (a .a) (a .e) (l .k) (l .left) (x .result) (omega arith) (omega arith) (omega arith) (l .inv .carried) (x .ensures .0) in
+    (omega (arith, start .pre .room ((l .k - a .a) - 1)), omega (arith, start .pre .film .reserve))
 
 loop-less : tie.Need-loop-less Inv-loop μ-loop
 loop-less c = search needs
@@ -106,7 +112,7 @@ loop-again c =
       from = omega arith;
       within = omega arith;
       carried =
-          c .less .ensures
+          c .carry-before .ensures
           ∙ turn-carry (a .b) (l .k) (l .left) (x .result) xs (omega arith) (omega (arith, length-sendsAt s (a .at) (a .n) (a .p))) (l .inv .carried) (x .ensures .0);
       added =
           rw place
@@ -145,7 +151,7 @@ add-held-spec =
     sub-part-2
     mul-part-2
     slice-write-part
-    less-requires
+    carry-before-requires
     loop-less
     loop-again
     same-length

@@ -33,11 +33,11 @@ sub-k c = search needs
 send-at-requires : tie.Need-send-at-requires Inv-loop μ-loop
 send-at-requires c κs = search needs
 
-add-less : tie.Need-add-less Inv-loop μ-loop
-add-less c = search needs
+add-carry-before : tie.Need-add-carry-before Inv-loop μ-loop
+add-carry-before c = search needs
 
-less-requires : tie.Need-less-requires Inv-loop μ-loop
-less-requires c κs = search needs
+carry-before-requires : tie.Need-carry-before-requires Inv-loop μ-loop
+carry-before-requires c κs = search needs
 
 loop-less : tie.Need-loop-less Inv-loop μ-loop
 loop-less c = search needs
@@ -71,8 +71,8 @@ carry-from-spec =
     loop-holds
     sub-k
     send-at-requires
-    add-less
-    less-requires
+    add-carry-before
+    carry-before-requires
     loop-less
     loop-again
     returns)

@@ -19,6 +19,7 @@ Inv-loop file at n p b c₀ most₀ i₀ c most i =
     × (c ≡ carry b (drop i (sizes file at n)))
     × (most ≡ largest (profile b (drop i (sizes file at n))))
     × (c ≤ maxHeld)
+    × (most ≤ maxHeld)
 
 abbrev μ-loop : tie.MeasureT-loop
 μ-loop file at n p b c₀ most₀ i₀ c most i = i
@@ -51,10 +52,22 @@ add-h c =
     omega (arith, size-small (a .file .now) (a .at) (a .n) (c .before .before .loop .i - 1) (start .pre .stored) (omega arith))
 
 larger-requires : tie.Need-larger-requires Inv-loop μ-loop
-larger-requires c κs = search needs
+larger-requires c κs =
+    let start = c .before .before .before .before in
+    let a = start .args in
+    let l = c .before .before .loop in
+    let x = c .size-at in
+    let small = size-small (a .file .now) (a .at) (a .n) (l .i - 1) (start .pre .stored) (omega arith) in
+    (omega arith, omega (arith, x .ensures))
 
-less-requires : tie.Need-less-requires Inv-loop μ-loop
-less-requires c κs = search needs
+carry-before-requires : tie.Need-carry-before-requires Inv-loop μ-loop
+carry-before-requires c κs =
+    let start = c .before .before .before .before .before in
+    let a = start .args in
+    let l = c .before .before .before .loop in
+    let x = c .before .size-at in
+    let small = size-small (a .file .now) (a .at) (a .n) (l .i - 1) (start .pre .stored) (omega arith) in
+    (omega (arith, x .ensures), omega (arith, start .pre .reserve))
 
 loop-less : tie.Need-loop-less Inv-loop μ-loop
 loop-less c = search needs
@@ -96,7 +109,7 @@ peak-spec =
     size-at-requires
     add-h
     larger-requires
-    less-requires
+    carry-before-requires
     loop-less
     loop-again
     returns)

@@ -5,14 +5,15 @@ use Prim.Native.Nat.{_≤_, _-_}
 use native.Mathlib.Omega.{arith}
 use borrow.Author.Needs.{needs}
 use lib.ListN.{drop}
+use Rattle.limits.specs.Bounds.{maxSize}
 use Rattle.laws.specs.Sums.{largest}
 use Rattle.films.specs.Sizes.{sizes}
-use Rattle.retrieval.specs.Stored.{length-sizes, sizes-at, drop-sizes, turn-largest}
+use Rattle.retrieval.specs.Stored.{length-sizes, sizes-at, size-small, drop-sizes, turn-largest}
 use Rattle.planning.proofs.reserves.largest.Statement.{statement}
 use Rattle.planning.proofs.reserves.largest.Tie as tie
 
 abbrev Inv-loop : tie.InvT-loop
-Inv-loop file at n most₀ i₀ most i = (i ≤ n) × (most ≡ largest (drop i (sizes file at n)))
+Inv-loop file at n most₀ i₀ most i = (i ≤ n) × (most ≡ largest (drop i (sizes file at n))) × (most ≤ maxSize)
 
 abbrev μ-loop : tie.MeasureT-loop
 μ-loop file at n most₀ i₀ most i = i
@@ -36,18 +37,25 @@ size-at-requires : tie.Need-size-at-requires Inv-loop μ-loop
 size-at-requires c κs = search needs
 
 larger-requires : tie.Need-larger-requires Inv-loop μ-loop
-larger-requires c κs = search needs
+larger-requires c κs =
+    let start = c .before .before .before .before in
+    let a = start .args in
+    let l = c .before .before .loop in
+    let small = size-small (a .file .now) (a .at) (a .n) (l .i - 1) (start .pre) (omega arith) in
+    (omega arith, omega (arith, c .size-at .ensures))
 
 loop-less : tie.Need-loop-less Inv-loop μ-loop
 loop-less c = search needs
 
 loop-again : tie.Need-loop-again Inv-loop μ-loop
 loop-again c =
-    let a = c .before .before .before .before .before .args in
+    let start = c .before .before .before .before .before in
+    let a = start .args in
     let s = a .file .now in
     let l = c .before .before .before .loop in
     let x = c .before .size-at in
     let ex = x .ensures ∙ sym (sizes-at s (a .at) (a .n) (l .i - 1) (omega arith)) in
+    let small = size-small s (a .at) (a .n) (l .i - 1) (start .pre) (omega arith) in
     omega (
       arith,
       turn-largest (l .i) (x .result) (sizes s (a .at) (a .n)) (omega arith) (omega (arith, length-sizes s (a .at) (a .n))) ex,

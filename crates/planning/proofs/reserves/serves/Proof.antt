@@ -62,8 +62,14 @@ returns c =
     let held = turn-held (a .b) (l .i) (l .c) (x .result) xs (omega arith) (omega (arith, length-sizes s (a .at) (a .n))) (l .inv .1) ex in
     sym (servesBy-over (a .p) (a .cap) (a .b) (l .i - 1) xs (omega arith))
 
-less-requires : tie.Need-less-requires Inv-loop μ-loop
-less-requires c κs = search needs
+carry-before-requires : tie.Need-carry-before-requires Inv-loop μ-loop
+carry-before-requires c κs =
+    let start = c .before .before .before .before .before in
+    let a = start .args in
+    let l = c .before .before .before .loop in
+    let x = c .before .size-at in
+    let small = size-small (a .file .now) (a .at) (a .n) (l .i - 1) (start .pre .stored) (omega arith) in
+    (omega (arith, x .ensures), omega (arith, start .pre .reserve))
 
 loop-less : tie.Need-loop-less Inv-loop μ-loop
 loop-less c = search needs
@@ -111,7 +117,7 @@ serves-spec =
     size-at-requires
     add-held
     returns
-    less-requires
+    carry-before-requires
     loop-less
     loop-again
     mul-result

@@ -1,5 +1,5 @@
 -- `planning::schedules::write_totals` meets its contract. The invariant: the totals are written from place k on, sent is C(k-1),
--- and the larger of it and due - b is A(k-1). The measure is k. Assumes nothing.
+-- and the larger of it and due - b is A(k-1); both are totals of the film. The measure is k. Assumes nothing.
 use mathlib.Core.Path.{_≡_, sym, _∙_}
 use mathlib.Core.List.{List, _∷_}
 use Prim.Native.Nat.{ℕ, _≤_, _<_, _-_, _+_, max}
@@ -11,7 +11,7 @@ use Rattle.films.specs.Sizes.{sizes}
 use Rattle.retrieval.specs.Schedule.{totals}
 use Rattle.retrieval.specs.JustInTime.{justInTime}
 use Rattle.retrieval.specs.CarryLaws.{length-justInTime}
-use Rattle.retrieval.specs.Stored.{sendsAt, length-sendsAt}
+use Rattle.retrieval.specs.Stored.{sendsAt, maxHeld, length-sendsAt}
 use Rattle.retrieval.specs.SheetLaws.{ontoFrom, ontoFrom-none, turn-write, written}
 use Rattle.planning.specs.Written.{sum-sends, totals-sum, turn-sent, start-rule, turn-rule}
 use Rattle.planning.proofs.schedules.write_totals.Statement.{statement}
@@ -20,6 +20,8 @@ use Rattle.planning.proofs.schedules.write_totals.Tie as tie
 record Going (out₀ file : List ℕ) (at n p b : ℕ) (out : List ℕ) (sent due k : ℕ) : Type 0 where
   within : k ≤ p + n
   sends : sent ≡ getD (0 ∷ totals 0 (sendsAt file at n p)) k 0
+  sent-small : sent ≤ maxHeld
+  due-small : due ≤ maxHeld
   rule : 0 < k → max sent (due - b) ≡ getD (justInTime b 0 (sendsAt file at n p)) (k - 1) 0
   laid : out ≡ ontoFrom k (λ x r. r) out₀ (justInTime b 0 (sendsAt file at n p))
   same : length out ≡ length out₀
@@ -48,6 +50,8 @@ loop-holds c =
     record {
       within = omega arith;
       sends = omega arith;
+      sent-small = c .total .ensures .1;
+      due-small = c .total .ensures .1;
       rule = λ h. start-rule (a .b) (a .p + a .n) (c .total .result) xs h (omega arith) total;
       laid =
           sym (ontoFrom-none (a .p + a .n) (λ x r. r) (a .out .now) (justInTime (a .b) 0 xs) (omega (arith, length-justInTime (a .b) 0 xs)));
@@ -57,11 +61,20 @@ loop-holds c =
 sub-k : tie.Need-sub-k Inv-loop μ-loop
 sub-k c = search needs
 
-less-requires : tie.Need-less-requires Inv-loop μ-loop
-less-requires c κs = search needs
+add-larger : tie.Need-add-larger Inv-loop μ-loop
+add-larger c =
+    let start = c .before .before .before .before .before in
+    let l = c .before .loop in
+    omega (arith, l .inv .sent-small, start .pre .film .reserve)
 
 larger-requires : tie.Need-larger-requires Inv-loop μ-loop
-larger-requires c κs = search needs
+larger-requires c κs =
+    let start = c .before .before .before .before .before in
+    let l = c .before .loop in
+    (omega (arith, l .inv .sent-small, start .pre .film .reserve), omega (arith, l .inv .due-small))
+
+sub-due : tie.Need-sub-due Inv-loop μ-loop
+sub-due c = let l = c .before .before .loop in omega arith
 
 mul-out : tie.Need-mul-out Inv-loop μ-loop
 mul-out c = search needs
@@ -74,8 +87,8 @@ send-at-requires c κs = search needs
 
 sub-sent : tie.Need-sub-sent Inv-loop μ-loop
 sub-sent c =
-    let a = c .before .before .before .before .before .before .before .before .args in
-    let l = c .before .before .before .before .loop in
+    let a = c .before .before .before .before .before .before .before .args in
+    let l = c .before .before .before .loop in
     let s = a .file .now in
     let xs = sendsAt s (a .at) (a .n) (a .p) in
     omega (
@@ -88,14 +101,14 @@ loop-less c = search needs
 
 loop-again : tie.Need-loop-again Inv-loop μ-loop
 loop-again c =
-    let a = c .before .before .before .before .before .before .before .before .args in
-    let l = c .before .before .before .before .loop in
+    let a = c .before .before .before .before .before .before .before .args in
+    let l = c .before .before .before .loop in
     let x = c .send-at in
     let s = a .file .now in
     let xs = sendsAt s (a .at) (a .n) (a .p) in
     let rule-totals = justInTime (a .b) 0 xs in
     let lx = length-sendsAt s (a .at) (a .n) (a .p) in
-    let due = c .before .larger .result in
+    let due = c .before .larger .result - a .b in
     let positive : 0 < l .k = omega arith in
     let within : l .k ≤ length xs = omega arith in
     let sent = turn-sent (l .k) (x .result) (l .sent) xs positive within (l .inv .sends) (x .ensures .0) in
@@ -103,6 +116,8 @@ loop-again c =
     record {
       within = omega arith;
       sends = omega arith;
+      sent-small = omega (arith, l .inv .sent-small);
+      due-small = omega (arith, l .inv .sent-small, l .inv .due-small);
       rule = λ h. turn-rule (a .b) (l .k) due (l .sent - x .result) xs h within here (omega arith);
       laid =
           turn-write (l .k) due (λ x r. r) (a .out .now) rule-totals (l .out) positive (omega (arith, length-justInTime (a .b) 0 xs)) (l .inv .laid) here;
@@ -134,8 +149,9 @@ write-totals-spec =
     add-k
     loop-holds
     sub-k
-    less-requires
+    add-larger
     larger-requires
+    sub-due
     mul-out
     slice-write-out
     send-at-requires

@@ -39,8 +39,15 @@ add-held c =
     let o = sym (asked .ensures) ∙ not-false (asked .result) (c .before .before .if1 .left) in
     omega (arith, c .send-at .ensures .0, start .pre .1, holds-open (a .file .now) (a .x) (a .t) o, holds-most (a .file .now) (a .t) (a .x) (start .pre .0))
 
-less-requires : tie.Need-less-requires
-less-requires c κs = search needs
+carry-before-requires : tie.Need-carry-before-requires
+carry-before-requires c κs =
+    let asked = c .before .before .before .open-in in
+    let start = c .before .before .before .before .before in
+    let a = start .args in
+    let o = sym (asked .ensures) ∙ not-false (asked .result) (c .before .before .if1 .left) in (
+      omega (arith, c .send-at .ensures .0, start .pre .1, holds-open (a .file .now) (a .x) (a .t) o, holds-most (a .file .now) (a .t) (a .x) (start .pre .0)),
+      omega (arith, start .pre .0 .bounded .reserve),
+    )
 
 returns-2 : tie.Need-returns-2
 returns-2 c =
@@ -51,7 +58,7 @@ returns-2 c =
     let h = holds-open (a .file .now) (a .x) (a .t) o in
     record {
       held = omega (arith, c .before .send-at .ensures .0, start .pre .1, h);
-      carried = omega (arith, c .before .send-at .ensures .0, start .pre .1, h, c .less .ensures, carry-open (a .file .now) (a .x) (a .t) o);
+      carried = omega (arith, c .before .send-at .ensures .0, start .pre .1, h, c .carry-before .ensures, carry-open (a .file .now) (a .x) (a .t) o);
     }
 
 pub held-in-spec : {M : Type 1} → statement M
@@ -63,5 +70,5 @@ held-in-spec =
     sub-send-at
     send-at-requires
     add-held
-    less-requires
+    carry-before-requires
     returns-2)
