@@ -7,14 +7,17 @@ use Prim.Native.Nat.{ℕ}
 use lib.ListN.{length}
 use Rattle.laws.specs.Questions.{refusal}
 use Rattle.limits.specs.Refusals.{noStart}
+use Rattle.films.specs.Layout.{Film}
+use Rattle.loss.specs.Loss.{lossAt}
 use Rattle.model.specs.Day.{Setting, State}
 use Rattle.model.specs.Fit.{FitsAt, First, None}
 use Rattle.model.specs.Calls.{Outcome, standing, openCall, bookQuestions, bookCall, dropCall, playCall}
-use Rattle.model.specs.Code.{stateOf, dayOf, dayOpened}
+use Rattle.model.specs.Code.{settingOf, stateOf, dayOf, dayOpened}
 use Rattle.model.specs.declared.Booking.{Booking}
 use Rattle.model.specs.declared.Line.{Line}
 use Rattle.model.specs.declared.Day.{Day}
 use Rattle.model.specs.declared.Request.{Request}
+use Rattle.opening.specs.Contract.{asked}
 use Rattle.questions.specs.Given.{settingAt}
 use Rattle.interface.specs.Calls.{Leaves}
 use Rattle.interface.specs.Reply.{replyOf}
@@ -28,6 +31,12 @@ pub record Opens (S : Setting) (d : State) (before : Day) (z : Reply) (o′ r′
   pub opens : o′ ≡ openCall S d .state .opens
   pub reserves : r′ ≡ openCall S d .state .reserves
   pub helds : h′ ≡ openCall S d .state .helds
+
+-- of the T, D and M asked for, with any film file and any records, since it is lent none
+abbrev pub OpensOver : Day → ℕ → ℕ → ℕ → List ℕ → List ℕ → List ℕ → Reply → List ℕ → List ℕ → List ℕ → Type 0
+OpensOver day rounds disk memory o r h z o′ r′ h′ =
+    (verdict : ℕ) (films : List Film) (rows : List Booking) (places : ℕ)
+    → Opens (settingOf verdict films lossAt (asked rounds disk memory)) (stateOf day rows places o r h) day z o′ r′ h′
 
 -- ---- booking
 

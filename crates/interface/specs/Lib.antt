@@ -10,6 +10,8 @@ pub mod Calls
 pub mod Rounds
 pub mod DeskCalls
 pub mod DeskLaws
+pub mod AsMade
+pub mod AsMadeLaws
 pub mod Unaltered
 pub mod ReplayCall
 pub mod ReplayLaws

@@ -13,8 +13,6 @@ use interface::plan_calls::write_schedule;
 use interface::reply::Reply;
 use model::Day;
 ghost use mathlib.Core.Path.{_≡_};
-ghost use mathlib.Core.List.{List};
-ghost use Prim.Native.Nat.{ℕ};
 ghost use lib.ListN.{length};
 ghost use Rattle.films.specs.Questions as questions;
 ghost use Rattle.films.specs.Layout as layout;
@@ -24,13 +22,9 @@ ghost use Rattle.retrieval.specs.LeastReserve.{Least};
 ghost use Rattle.reader.specs.Rounds.{roundSizeOf};
 ghost use Rattle.reader.specs.Summary.{summaryOf};
 ghost use Rattle.planning.specs.Answers.{scheduled, scheduledNumber, scheduleOut, reserved};
-ghost use Rattle.loss.specs.Loss.{lossAt};
-ghost use Rattle.model.specs.Code.{settingOf, stateOf};
-ghost use Rattle.model.specs.declared.Booking.{Booking};
-ghost use Rattle.opening.specs.Contract.{asked};
 ghost use Rattle.interface.specs.FilmCalls.{filmOf, entryOf, figuresOf, sizeOf};
 ghost use Rattle.interface.specs.PlanCalls.{reserveOf};
-ghost use Rattle.interface.specs.DeskCalls.{Opens};
+ghost use Rattle.interface.specs.DeskCalls.{OpensOver};
 
 // 0, or the number of the first question, 1 to 7, that the file says no to.
 #[no_mangle]
@@ -99,7 +93,7 @@ pub extern "C" fn playback_open(
     reserves: &mut [u64],
     helds: &mut [u64],
 ) -> Reply
-    ensures { λ r. ⌜ ((verdict : ℕ) (films : List layout.Film) (rows : List Booking) (places : ℕ) → Opens (settingOf verdict films lossAt (asked rounds disk memory)) (stateOf day rows places (now (opens .entry)) (now (reserves .entry)) (now (helds .entry))) day r (now (opens .exit)) (now (reserves .exit)) (now (helds .exit))) ⌝ }
+    ensures { λ r. ⌜ OpensOver day rounds disk memory (now (opens .entry)) (now (reserves .entry)) (now (helds .entry)) r (now (opens .exit)) (now (reserves .exit)) (now (helds .exit)) ⌝ }
 {
     open_day(day, rounds, disk, memory, opens, reserves, helds)
 }
