@@ -7,7 +7,7 @@ use Rattle.films.specs.Layout.{encode}
 use Rattle.films.specs.Questions.{headQuestions, exceeds, roundsInRange, sizeQuestions, fileQuestions, verdict}
 use Rattle.films.specs.Decode.{filmsOf}
 use Rattle.loss.specs.Loss.{table}
-use Rattle.retrieval.specs.Figures.{film1}
+use Rattle.model.specs.Figures.{film1}
 use Rattle.model.specs.Day.{openAt, showsAt, exists}
 use Rattle.model.specs.Questions.{recordQuestions, windowOpen, bookOwn, dropOwn, playOwn}
 use Rattle.model.specs.Soundness.{passes, roundKept, limitsKept, soundList, fitTest}

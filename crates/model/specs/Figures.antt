@@ -1,12 +1,11 @@
--- The starred lines of document 01, 'Figures for film 1', and the session of 'The program', in one table, by computation
--- over the definitions. The loss is the papers' table.
+-- The session of document 01, 'The program', by computation over the definitions. The loss is the papers' table. (The starred lines are
+-- crate `starred_lines`'s table.)
 use mathlib.Core.Path.{_≡_, refl}
 use mathlib.Core.List.{List, [], _∷_}
 use Prim.Native.Nat.{ℕ}
 use lib.ListN.{replicate}
 use lib.Count.{ones, onesIn}
 use Rattle.limits.specs.Bounds.{hallRounds, hallPlaces}
-use Rattle.retrieval.specs.Figures.{film1, ScheduleFigures, schedule-figures}
 use Rattle.loss.specs.Loss.{table}
 use Rattle.model.specs.Loss.{lossAt}
 use Rattle.model.specs.Day.{Setting, State, openAt, showsAt, exists}
@@ -15,6 +14,10 @@ use Rattle.model.specs.Soundness.{passes, roundKept, limitsKept, soundLi
 use Rattle.model.specs.Calls.{roundsInRange, dayInRange, limitsInRange, sheetLong, sound, openQuestions, openCall, bookQuestions, startOf, bookCall, dropQuestions, dropCall, playQuestions, playCall, Call, booking, playing, answers, reports}
 use Rattle.model.specs.declared.Line.{Line}
 use Rattle.model.specs.declared.Answer.the-variants.{Refused, Opened, Booked, Played}
+
+-- "Film 1 has sizes 8, 8, 8, 2, 6, 4"
+abbrev pub film1 : List ℕ
+film1 = 8 ∷ 8 ∷ 8 ∷ 2 ∷ 6 ∷ 4 ∷ []
 
 -- "OPEN 20 141433 18" and others: "Film 1 .. is the only film."
 abbrev pub day : ℕ → ℕ → Setting
@@ -61,29 +64,18 @@ abbrev pub session : List Call
 session = book 1 1 0 0 ∷ book 2 2 0 10 ∷ book 3 1 0 5 ∷ playing report ∷ playing report ∷ []
 
 pub record Figures : Type 0 where
-  -- the lines on schedules and least reserves
-  pub schedules : ScheduleFigures
   -- the session's output: "OPENED", "BOOKED 1 0", "BOOKED 2 3", "NO 22", "ROUND 0 1 0", "ROUND 1 1 1"
   pub opens : openCall (day 141433 18) lent .answer ≡ Opened
   pub answered : answers (day 141433 18) (opened 141433 18) session ≡ Booked 0 ∷ Booked 3 ∷ Refused 22 ∷ Played 1 0 ∷ Played 1 1 ∷ []
   -- and its lines "1 6 0 6" and "1 6 8 12"
   pub reported : reports (day 141433 18) (opened 141433 18) session
       ≡ [] ∷ [] ∷ [] ∷ (line 1 6 0 6 ∷ line 7 7 7 7 ∷ []) ∷ (line 1 6 8 12 ∷ line 7 7 7 7 ∷ []) ∷ []
-  -- "Booking 2 above with M 15: start 6. With M 18 and D 141,432: start 7."
-  pub less-memory : answers (day 141433 15) (opened 141433 15) (book 1 1 0 0 ∷ book 2 2 0 10 ∷ []) ≡ Booked 0 ∷ Booked 6 ∷ []
-  pub less-disk : answers (day 141432 18) (opened 141432 18) (book 1 1 0 0 ∷ book 2 2 0 10 ∷ []) ≡ Booked 0 ∷ Booked 7 ∷ []
-  -- "Booking 2 above on cab 1: start 6."
-  pub same-cab : answers (day 141433 18) (opened 141433 18) (book 1 1 0 0 ∷ book 2 1 0 10 ∷ []) ≡ Booked 0 ∷ Booked 6 ∷ []
 
 pub figures : Figures
 unfolding table openAt showsAt exists recordQuestions windowOpen bookOwn dropOwn playOwn passes roundKept limitsKept soundList fitTest roundsInRange dayInRange limitsInRange sheetLong sound openQuestions openCall bookQuestions startOf bookCall dropQuestions dropCall playQuestions playCall ones onesIn
 figures =
     record {
-      schedules = schedule-figures;
       opens = refl;
       answered = refl;
       reported = refl;
-      less-memory = refl;
-      less-disk = refl;
-      same-cab = refl;
     }

@@ -42,10 +42,14 @@ abbrev pub scheduledBy : ℕ → List ℕ → Scheduled
 scheduledBy zero totals = scheduled-as.Written (length totals)
 scheduledBy (suc k) totals = scheduled-as.Refused (suc k)
 
--- the number of an answer, 0 if it is none
+-- the paper's number and values of an answer
 abbrev pub scheduledNumber : Scheduled → ℕ
 scheduledNumber (scheduled-as.Refused k) = k
 scheduledNumber (scheduled-as.Written m) = 0
+
+abbrev pub scheduledValues : Scheduled → List ℕ
+scheduledValues (scheduled-as.Refused k) = []
+scheduledValues (scheduled-as.Written m) = m ∷ []
 
 -- the lent list afterwards: the totals, and "places from p+n on are untouched"; "a refusal .. changes nothing lent"
 abbrev pub writtenBy : ℕ → List ℕ → List ℕ → List ℕ
@@ -85,10 +89,14 @@ abbrev pub reserveBy : ℕ → ℕ → Reserve
 reserveBy zero b = reserve-as.Bytes b
 reserveBy (suc k) b = reserve-as.Refused (suc k)
 
--- the number of an answer, 0 if it is none
+-- the paper's number and values of an answer
 abbrev pub reserveNumber : Reserve → ℕ
 reserveNumber (reserve-as.Refused k) = k
 reserveNumber (reserve-as.Bytes b) = 0
+
+abbrev pub reserveValues : Reserve → List ℕ
+reserveValues (reserve-as.Refused k) = []
+reserveValues (reserve-as.Bytes b) = b ∷ []
 
 -- the answer of a call
 unfoldable pub reserved : List ℕ → ℕ → ℕ → ℕ → Reserve

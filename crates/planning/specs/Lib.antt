@@ -4,4 +4,3 @@ pub mod Answers
 pub mod AnswerLaws
 pub mod FileAnswers
 pub mod Written
-pub mod Figures

@@ -1,6 +1,6 @@
 -- Document 01, 'The schedule rule': "The least reserve for film, p and memory cap is the smallest b that has a schedule with
 -- peak at most the cap." Over all schedules.
-use mathlib.Core.Bool.{Bool, cond, _&&_, not}
+use mathlib.Core.Bool.{Bool, cond, _&&_}
 use mathlib.Core.List.{List}
 use Prim.Native.Nat.{ℕ, zero, suc, _≤_}
 use lib.Dec.{leb}
@@ -22,11 +22,6 @@ pub record Least (xs : List ℕ) (cap b : ℕ) : Type 0 where
 -- `Serves` (`servesBy-iff`)
 abbrev pub servesBy : List ℕ → ℕ → ℕ → Bool
 servesBy xs cap b = existsBy b xs && leb (peak xs (justInTime b 0 xs)) cap
-
--- `Least` (`leastBy-least`, `least-leastBy`)
-abbrev pub leastBy : List ℕ → ℕ → ℕ → Bool
-leastBy xs cap zero = servesBy xs cap 0
-leastBy xs cap (suc b) = servesBy xs cap (suc b) && not (servesBy xs cap b)
 
 -- the first of the numbers b, .., b + k that passes a test, if one before the last does; else the last
 abbrev pub firstFrom : (ℕ → Bool) → ℕ → ℕ → ℕ

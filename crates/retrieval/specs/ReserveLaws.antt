@@ -1,7 +1,7 @@
 -- Reserves that serve a film within a memory cap, and the least of them. Assumes nothing.
 use mathlib.Core.Path.{_≡_, refl, sym, _∙_}
 use mathlib.Core.Logic.{_↔_}
-use mathlib.Core.Bool.{Bool, true, false, not, cond, true≢false}
+use mathlib.Core.Bool.{Bool, true, false, cond, true≢false}
 use mathlib.Core.List.{List}
 use Prim.Native.Nat.{ℕ, zero, suc, _+_, _*_, _≤_, _<_}
 use native.Mathlib.Decide.{decLe}
@@ -14,7 +14,7 @@ use Rattle.laws.specs.Sums.{largest}
 use Rattle.retrieval.specs.Tests.{same-test, test-false}
 use Rattle.retrieval.specs.Schedule.{sends, Schedule, peak}
 use Rattle.retrieval.specs.JustInTime.{justInTime, existsBy}
-use Rattle.retrieval.specs.LeastReserve.{Serves, Least, servesBy, leastBy, firstFrom, leastReserve}
+use Rattle.retrieval.specs.LeastReserve.{Serves, Least, servesBy, firstFrom, leastReserve}
 use Rattle.retrieval.specs.Carry.{carry, profile}
 use Rattle.retrieval.specs.CarryLaws.{justInTime-helds, prefetch, prefetch-peak, prefetch-largest, carry-mono, peak-mono, large-carry, large-profile, largest-peak, getD-largest}
 use Rattle.retrieval.specs.Minimality.{justInTime-schedule, schedule-carry, reads-peak, existsBy-carry}
@@ -130,28 +130,6 @@ servesBy-test p cap b c xs h q =
     let f = film-serves xs p cap b in
     same-test (leb c (p * b)) (servesBy (sends p xs) cap b) (λ e. i .1 (f .1 (omega (arith, leb-true c (p * b) e))))
     (λ e. le-leb c (p * b) (omega (arith, f .0 (i .0 e))))
-
-pub leastBy-least : (xs : List ℕ) (cap b : ℕ) → leastBy xs cap b ≡ true → Least xs cap b
-leastBy-least xs cap zero e = record { serves = servesBy-iff xs cap 0 .0 e; least = λ b′ w. omega arith }
-leastBy-least xs cap (suc b) e =
-    record {
-      serves = servesBy-iff xs cap (suc b) .0 (left (servesBy xs cap (suc b)) (not (servesBy xs cap b)) e);
-      least = λ b′ w. omega (arith, serves-above xs cap b (λ v. not-both (servesBy xs cap b) (servesBy-iff xs cap b .1 v) (right (servesBy xs cap (suc b)) e)) b′ w);
-    }
-  where
-    not-both : (a : Bool) → a ≡ true → not a ≡ true → ⊥
-    not-both true e f = true≢false (sym f)
-    not-both false e f = true≢false (sym e)
-
-pub least-leastBy : (xs : List ℕ) (cap b : ℕ) → Least xs cap b → leastBy xs cap b ≡ true
-least-leastBy xs cap zero l = servesBy-iff xs cap 0 .1 (l .serves)
-least-leastBy xs cap (suc b) l =
-    join (servesBy-iff xs cap (suc b) .1 (l .serves))
-    (unless (servesBy xs cap b) (λ e. omega (arith, l .least b (servesBy-iff xs cap b .0 e))))
-  where
-    unless : (a : Bool) → (a ≡ true → ⊥) → not a ≡ true
-    unless true f = absurd (f refl)
-    unless false f = refl
 
 -- ---- the least reserve as a number
 
