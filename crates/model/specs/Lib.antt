@@ -24,6 +24,7 @@ pub mod Unchanged
 
 pub mod Figures
 pub mod Examples
+pub mod QuestionExamples
 -- ---- Laws that the claims rest on
 
 pub mod FitLaws
