@@ -1,5 +1,4 @@
 // The calls on a film file: each answers plain numbers, 0 where there is none.
-use films::catalogue::catalogue;
 use reader::cursor::next;
 use reader::cursor::start;
 use reader::rounds::round_size;
@@ -131,6 +130,5 @@ pub fn summary_of(file: &[u8], film: u64) -> Figures
 pub fn size_at(file: &[u8], film: u64, round: u64) -> Size
     ensures { λ r. ⌜ r ≡ sizeOf (roundSizeOf (now (file .entry)) film round) ⌝ }
 {
-    let c = catalogue(file);
-    size_of(round_size(file, c, film, round))
+    size_of(round_size(file, film, round))
 }

@@ -14,6 +14,16 @@ abbrev pub refusal : List Question → ℕ
 refusal [] = 0
 refusal (q ∷ qs) = cond (q .0) (refusal qs) (q .1)
 
+-- "A refusal returns its number only": the values that an accepted call gives, and none beside another number than 0
+abbrev pub valuesIf : ℕ → List ℕ → List ℕ
+valuesIf zero values = values
+valuesIf (suc k) values = []
+
+-- an answer by its number and its values: the number of the first question that says no; or 0, and what an accepted call gives
+pub record Answers (questions : List Question) (accepted : List ℕ) (number : ℕ) (values : List ℕ) : Type 0 where
+  pub numbered : number ≡ refusal questions
+  pub valued : values ≡ valuesIf (refusal questions) accepted
+
 -- none says no
 abbrev pub allHold : List Question → Bool
 allHold [] = true

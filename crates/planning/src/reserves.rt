@@ -1,15 +1,16 @@
 // The least reserve of a film, by bisection.
 ghost use mathlib.Core.Path.{_≡_};
+ghost use mathlib.Core.List.{[], _∷_};
 ghost use Prim.Native.Nat.{ℕ};
 ghost use Rattle.films.specs.Layout.{sizesOf};
 ghost use Rattle.films.specs.Decode.{filmsOf};
 ghost use Rattle.films.specs.Sizes.{sizes, Stored};
-ghost use Rattle.laws.specs.Questions.{refusal};
+ghost use Rattle.laws.specs.Questions.{refusal, Answers};
 ghost use Rattle.laws.specs.Sums as sums;
 ghost use Rattle.retrieval.specs.Schedule.{sends};
 ghost use Rattle.retrieval.specs.LeastReserve.{Serves, Least, servesBy, leastReserve};
 ghost use Rattle.retrieval.specs.Stored.{sendsAt, InRange};
-ghost use Rattle.planning.specs.Answers.{reserveBy, capQuestions, reserved};
+ghost use Rattle.planning.specs.Answers.{reserveBy, capQuestions, reserveQuestions, reserved, reserveNumber, reserveValues};
 use films::catalogue::catalogue;
 use films::lookup::lookup;
 use films::types::Lookup;
@@ -97,7 +98,8 @@ fn least(file: &[u8], at: usize, n: usize, p: u64, cap: u64) -> Reserve
 // of the first question that says no. At most 25 passes over the film.
 pub fn least_reserve(file: &[u8], film: u64, p: u64, cap: u64) -> Reserve
     ensures answer { λ r. ⌜ r ≡ reserved (now (file .entry)) film p cap ⌝ }
-    ensures least { λ r. ⌜ ((b : ℕ) → r ≡ Reserve.Bytes b → Least (sends p (sizesOf (filmsOf (now (file .entry))) film)) cap b) ⌝ }
+    ensures least { λ r. ⌜ ((b : ℕ) → reserveValues r ≡ b ∷ [] → Least (sends p (sizesOf (filmsOf (now (file .entry))) film)) cap b) ⌝ }
+    ensures said { λ r. ⌜ Answers (reserveQuestions (now (file .entry)) film p cap) (leastReserve (sends p (sizesOf (filmsOf (now (file .entry))) film)) cap ∷ []) (reserveNumber r) (reserveValues r) ⌝ }
 {
     let films = catalogue(file);
     if films.verdict != 0 {

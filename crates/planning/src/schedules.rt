@@ -1,14 +1,17 @@
 // The just-in-time totals of a film, written to a lent list.
 ghost use mathlib.Core.Path.{_≡_};
-ghost use mathlib.Core.List.{_++_};
+ghost use mathlib.Core.List.{[], _∷_, _++_};
 ghost use Prim.Native.Nat.{_+_, _≤_};
 ghost use lib.ListN.{length, drop};
+ghost use Rattle.laws.specs.Questions.{Answers};
 ghost use Rattle.laws.specs.Sums.{sum};
+ghost use Rattle.films.specs.Layout.{sizesOf};
+ghost use Rattle.films.specs.Decode.{filmsOf};
 ghost use Rattle.films.specs.Sizes.{sizes, Stored};
 ghost use Rattle.retrieval.specs.JustInTime.{justInTime};
 ghost use Rattle.retrieval.specs.Stored.{sendsAt, maxHeld};
 ghost use Rattle.planning.specs.Written.{Writes};
-ghost use Rattle.planning.specs.Answers.{Planned, scheduled, scheduleOut};
+ghost use Rattle.planning.specs.Answers.{Planned, planTotals, scheduleQuestions, scheduled, scheduledNumber, scheduledValues, scheduleOut};
 use films::catalogue::catalogue;
 use films::lookup::lookup;
 use films::types::Lookup;
@@ -88,6 +91,7 @@ fn plan(file: &[u8], at: usize, n: usize, p: u64, b: u64, out: &mut [u64]) -> Sc
 pub fn schedule(file: &[u8], film: u64, p: u64, b: u64, out: &mut [u64]) -> Scheduled
     ensures answer { λ r. ⌜ r ≡ scheduled (now (file .entry)) film p b (length (now (out .entry))) ⌝ }
     ensures places { λ _. ⌜ now (out .exit) ≡ scheduleOut (now (file .entry)) film p b (now (out .entry)) ⌝ }
+    ensures said { λ r. ⌜ Answers (scheduleQuestions (now (file .entry)) film p b (length (now (out .entry)))) (length (planTotals (sizesOf (filmsOf (now (file .entry))) film) p b) ∷ []) (scheduledNumber r) (scheduledValues r) ⌝ }
 {
     let films = catalogue(file);
     if films.verdict != 0 {

@@ -1,22 +1,59 @@
 -- What a reader gives, call after call. Assumes nothing.
 use mathlib.Core.Path.{_≡_, refl, sym, ap, _∙_}
-use mathlib.Core.Bool.{Bool, true, false}
+use mathlib.Core.Bool.{cond}
 use mathlib.Core.List.{List, [], _∷_, _++_, map}
 use Prim.Native.Nat.{ℕ, zero, suc, _+_, _<_, _≤_}
 use native.Mathlib.Omega.{arith}
 use native.Mathlib.Nat.{suc-add, zero-add}
-use borrow.Author.Tests.{eq-eqb, ne-eqb, eqb-true, eqb-false}
+use borrow.Author.Tests.{eq-eqb, ne-eqb}
 use lib.ListN.{length, replicate}
 use lib.Dec.{eqb}
+use Rattle.laws.specs.Questions.{refusal, valuesIf}
 use Rattle.films.specs.Layout.{Film}
 use Rattle.films.specs.SizeLaws.{length-sizes}
 use Rattle.films.specs.Span.{span, length-span}
 use Rattle.films.specs.Questions.{verdict, filmsIn, entryNumber, entryRounds}
 use Rattle.films.specs.Decode.{offset, filmAt, filmsOf}
-use Rattle.reader.specs.Reader.{startOf, entryOf, entryAt, stepOf, entryRefusal, entryValues}
+use Rattle.reader.specs.Reader.{startOf, entryOf, entryAt, moved, stepOf, valuesAt, entryRefusal, entryValues, Gives}
 use Rattle.reader.specs.declared.types.Reader.{Reader}
+use Rattle.reader.specs.declared.types.Step.{Step}
 use Rattle.reader.specs.declared.types.Entry.{Entry}
 use Rattle.reader.specs.declared.types.Entry.the-variants as entry
+
+-- ---- the paper's number and values of what a reader gives
+
+entry-number : (fs : List Film) (p : ℕ) → entryRefusal (entryAt fs p) ≡ 0
+entry-number [] p = refl
+entry-number (f ∷ fs) zero = refl
+entry-number (f ∷ fs) (suc p) = entry-number fs p
+
+entry-values : (fs : List Film) (p : ℕ) → entryValues (entryAt fs p) ≡ valuesAt fs p
+entry-values [] p = refl
+entry-values (f ∷ fs) zero = refl
+entry-values (f ∷ fs) (suc p) = entry-values fs p
+
+pub gives : (s : List ℕ) (r : Reader) (e : Step) → e ≡ stepOf s r → Gives s r e
+unfolding stepOf
+gives s r e q =
+    let fs = filmsOf s in
+    let p = r .position in
+    let film : Step = record { entry = entryAt fs p; reader = moved (entryAt fs p) r } in (
+      q,
+      record {
+        numbered = ap (λ (t : Step). entryRefusal (t .entry)) q ∙ number (r .refusal) film (entry-number fs p);
+        valued = ap (λ (t : Step). entryValues (t .entry)) q ∙ values (r .refusal) film (valuesAt fs p) (entry-values fs p);
+      },
+    )
+  where
+    number : (n : ℕ) (x : Step) → entryRefusal (x .entry) ≡ 0
+        → entryRefusal (cond (eqb n 0) x (record { entry = entry.Refused n; reader = r }) .entry) ≡ refusal ((eqb n 0, n) ∷ [])
+    number zero x h = h
+    number (suc n) x h = rw (ne-eqb (suc n) 0 (λ e. omega arith))
+
+    values : (n : ℕ) (x : Step) (vs : List ℕ) → entryValues (x .entry) ≡ vs
+        → entryValues (cond (eqb n 0) x (record { entry = entry.Refused n; reader = r }) .entry) ≡ valuesIf (refusal ((eqb n 0, n) ∷ [])) vs
+    values zero x vs h = h
+    values (suc n) x vs h = rw (ne-eqb (suc n) 0 (λ e. omega arith))
 
 -- ---- one call
 
@@ -58,30 +95,6 @@ step-film s r e h = rw (eq-eqb _ _ e, entry-here s (r .position) h)
 pub step-end : (s : List ℕ) (r : Reader) → r .refusal ≡ 0 → filmsIn s ≤ r .position → stepOf s r ≡ record { entry = entry.NoMore; reader = r }
 unfolding stepOf
 step-end s r e h = rw (eq-eqb _ _ e, entry-end s (r .position) h)
-
-step-entry : (s : List ℕ) (r : Reader) → r .refusal ≡ 0 → stepOf s r .entry ≡ entryAt (filmsOf s) (r .position)
-unfolding stepOf
-step-entry s r e = rw (eq-eqb _ _ e)
-
-entry-number : (fs : List Film) (p : ℕ) → entryRefusal (entryAt fs p) ≡ 0
-entry-number [] p = refl
-entry-number (f ∷ fs) zero = refl
-entry-number (f ∷ fs) (suc p) = entry-number fs p
-
--- the number is that of the file that the reader was started on
-pub step-number : (s : List ℕ) (r : Reader) → entryRefusal (stepOf s r .entry) ≡ r .refusal
-step-number s r = go (eqb (r .refusal) 0) refl
-  where
-    go : (b : Bool) → eqb (r .refusal) 0 ≡ b → entryRefusal (stepOf s r .entry) ≡ r .refusal
-    go true q =
-        let e = eqb-true _ _ q in
-        ap entryRefusal (step-entry s r e) ∙ entry-number (filmsOf s) (r .position) ∙ sym e
-    go false q = ap (λ x. entryRefusal (x .entry)) (step-refused s r (eqb-false _ _ q))
-
--- the values are the number and the round count of the entry at the position
-pub step-values : (s : List ℕ) (r : Reader) → r .refusal ≡ 0 → r .position < filmsIn s
-    → entryValues (stepOf s r .entry) ≡ entryNumber s (r .position) ∷ entryRounds s (r .position) ∷ []
-step-values s r e h = rw (step-film s r e h)
 
 -- ---- call after call
 

@@ -2,12 +2,12 @@
 use mathlib.Core.Path.{_≡_, refl, sym, ap, _∙_}
 use mathlib.Core.Bool.{Bool, true, false, cond}
 use mathlib.Core.List.{List, [], _∷_}
-use Prim.Native.Nat.{ℕ, _+_, _*_, _<_, _≤_}
+use Prim.Native.Nat.{ℕ, zero, suc, _+_, _*_, _<_, _≤_}
 use native.Mathlib.Omega.{arith}
-use borrow.Author.Tests.{eq-eqb, ne-eqb, lt-ltb, le-leb, ltb-true, eqb-true, eqb-false}
+use borrow.Author.Tests.{eq-eqb, ne-eqb, le-leb, ltb-true, eqb-true, eqb-false}
 use lib.ListN.{length, getD}
 use lib.Dec.{eqb, ltb}
-use Rattle.laws.specs.Questions.{refusal}
+use Rattle.laws.specs.Questions.{refusal, valuesIf, Answers}
 use Rattle.limits.specs.Refusals.{noFilm}
 use Rattle.films.specs.Layout.{inFile, sizesOf}
 use Rattle.films.specs.Sizes.{sizes, Stored}
@@ -20,7 +20,8 @@ use Rattle.films.specs.declared.types.Catalogue.{Catalogue}
 use Rattle.films.specs.declared.types.Lookup.{Lookup}
 use Rattle.films.specs.declared.types.Lookup.the-variants.{Found, Missing}
 use Rattle.reader.specs.Summary.{summaryQuestions}
-use Rattle.reader.specs.Rounds.{sizeAt, sizeFound, roundSizeIn, roundSizeOf, roundRefusal, roundValues}
+use Rattle.reader.specs.Rounds.{sizeAt, sizeFound, sizeIn, roundSizeIn, roundSizeOf, roundRefusal, roundValues}
+use Rattle.reader.specs.declared.types.RoundSize.{RoundSize}
 use Rattle.reader.specs.declared.types.RoundSize.the-variants.{Bytes, NoRound, Refused}
 
 -- ---- by any catalogue
@@ -75,20 +76,26 @@ round-size-of s k i = go (eqb (verdict s) 0) refl
         let n = eqb-false _ _ q in
         round-refused s (catalogueOf s) k i (λ e. n (sym (catalogue-verdict s) ∙ e)) ∙ ap Refused (catalogue-verdict s) ∙ sym (of-refused s k i n)
 
--- the number is that of the first question that says no
-pub round-number : (s : List ℕ) (k i : ℕ) → roundRefusal (roundSizeOf s k i) ≡ refusal (summaryQuestions s k)
+-- the paper's number and values of the answer
+pub round-answers : (s : List ℕ) (k i : ℕ) (r : RoundSize) → r ≡ roundSizeOf s k i
+    → Answers (summaryQuestions s k) (sizeIn (sizesOf (filmsOf s) k) i) (roundRefusal r) (roundValues r)
 unfolding roundSizeOf
-round-number s k i = go (eqb (refusal (summaryQuestions s k)) 0) (ltb i (length (sizesOf (filmsOf s) k))) refl
+round-answers s k i r e =
+    record {
+      numbered = ap roundRefusal e ∙ number (refusal (summaryQuestions s k)) (ltb i (length xs));
+      valued = ap roundValues e ∙ values (refusal (summaryQuestions s k)) (ltb i (length xs));
+    }
   where
-    go : (b d : Bool) → eqb (refusal (summaryQuestions s k)) 0 ≡ b
-        → roundRefusal (cond b (cond d (Bytes (getD (sizesOf (filmsOf s) k) i 0)) NoRound) (Refused (refusal (summaryQuestions s k))))
-        ≡ refusal (summaryQuestions s k)
-    go true true e = sym (eqb-true _ _ e)
-    go true false e = sym (eqb-true _ _ e)
-    go false d e = refl
+    xs : List ℕ
+    xs = sizesOf (filmsOf s) k
 
--- the value is the round's size
-pub round-values : (s : List ℕ) (k i : ℕ) → refusal (summaryQuestions s k) ≡ 0 → i < length (sizesOf (filmsOf s) k)
-    → roundValues (roundSizeOf s k i) ≡ getD (sizesOf (filmsOf s) k) i 0 ∷ []
-unfolding roundSizeOf
-round-values s k i e h = rw (eq-eqb _ _ e, lt-ltb _ _ h)
+    number : (n : ℕ) (b : Bool) → roundRefusal (cond (eqb n 0) (cond b (Bytes (getD xs i 0)) NoRound) (Refused n)) ≡ n
+    number zero true = refl
+    number zero false = refl
+    number (suc n) b = rw (ne-eqb (suc n) 0 (λ e. omega arith))
+
+    values : (n : ℕ) (b : Bool)
+        → roundValues (cond (eqb n 0) (cond b (Bytes (getD xs i 0)) NoRound) (Refused n)) ≡ valuesIf n (cond b (getD xs i 0 ∷ []) [])
+    values zero true = refl
+    values zero false = refl
+    values (suc n) b = rw (ne-eqb (suc n) 0 (λ e. omega arith))

@@ -38,6 +38,10 @@ roundSizeOf s k i =
     (cond (ltb i (length (sizesOf (filmsOf s) k))) (Bytes (getD (sizesOf (filmsOf s) k) i 0)) NoRound)
     (Refused (refusal (summaryQuestions s k)))
 
+-- the size of round i, if there is one
+abbrev pub sizeIn : List ℕ → ℕ → List ℕ
+sizeIn xs i = cond (ltb i (length xs)) (getD xs i 0 ∷ []) []
+
 -- the paper's number and values of the answer
 abbrev pub roundRefusal : RoundSize → ℕ
 roundRefusal (Bytes x) = 0

@@ -20,7 +20,10 @@ larger a b = max a b
 unfoldable pub mean : ℕ → ℕ → ℕ
 mean total n = total / n
 
--- "total bytes, largest size, and the mean"
+-- "total bytes, largest size, and the mean", of a film's sizes
+abbrev pub figures : List ℕ → List ℕ
+figures xs = sum xs ∷ largest xs ∷ mean (sum xs) (length xs) ∷ []
+
 unfoldable pub figuresOf : List ℕ → Summary
 figuresOf xs = Figures (sum xs) (largest xs) (mean (sum xs) (length xs))
 

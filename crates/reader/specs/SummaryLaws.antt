@@ -1,13 +1,13 @@
 -- A summary by the questions' answers; the paper's number and values of it. Assumes nothing.
-use mathlib.Core.Path.{_≡_, refl, sym}
-use mathlib.Core.Bool.{Bool, true, false, cond}
+use mathlib.Core.Path.{_≡_, refl, ap, _∙_}
+use mathlib.Core.Bool.{true, false, cond}
 use mathlib.Core.List.{List, [], _∷_}
-use Prim.Native.Nat.{ℕ, suc, _+_, _*_, _-_, _<_, _≤_, max}
+use Prim.Native.Nat.{ℕ, zero, suc, _+_, _*_, _-_, _<_, _≤_, max}
 use native.Mathlib.Omega.{arith}
 use borrow.Author.Tests.{eq-eqb, ne-eqb, eqb-true}
 use lib.ListN.{length}
 use lib.Dec.{eqb}
-use Rattle.laws.specs.Questions.{refusal}
+use Rattle.laws.specs.Questions.{refusal, valuesIf, Answers}
 use Rattle.laws.specs.Sums.{sum, largest}
 use Rattle.limits.specs.Bounds.{maxSize}
 use Rattle.limits.specs.Refusals.{noFilm}
@@ -16,7 +16,8 @@ use Rattle.films.specs.Sizes.{size, sizes, Stored}
 use Rattle.films.specs.SizeLaws.{getD-sizes, length-sizes}
 use Rattle.films.specs.Questions.{verdict}
 use Rattle.films.specs.Decode.{filmsOf}
-use Rattle.reader.specs.Summary.{mean, figuresOf, summaryQuestions, summaryOf, summaryRefusal, summaryValues}
+use Rattle.reader.specs.Summary.{mean, figures, figuresOf, summaryQuestions, summaryOf, summaryRefusal, summaryValues}
+use Rattle.reader.specs.declared.types.Summary.{Summary}
 use Rattle.reader.specs.declared.types.Summary.the-variants.{Figures, Refused}
 
 module _ (s : List ℕ) (k : ℕ) where
@@ -32,21 +33,26 @@ module _ (s : List ℕ) (k : ℕ) where
   unfolding summaryOf summaryQuestions
   summary-found e f = simp (eq-eqb _ _ e, f)
 
-  -- the number is that of the first question that says no
-  pub summary-number : summaryRefusal (summaryOf s k) ≡ refusal (summaryQuestions s k)
+  -- the paper's number and values of it
+  pub summary-answers : (r : Summary) → r ≡ summaryOf s k
+      → Answers (summaryQuestions s k) (figures (sizesOf (filmsOf s) k)) (summaryRefusal r) (summaryValues r)
   unfolding summaryOf figuresOf
-  summary-number = go (eqb (refusal (summaryQuestions s k)) 0) refl
+  summary-answers r e =
+      record {
+        numbered = ap summaryRefusal e ∙ number (refusal (summaryQuestions s k));
+        valued = ap summaryValues e ∙ values (refusal (summaryQuestions s k));
+      }
     where
-      go : (b : Bool) → eqb (refusal (summaryQuestions s k)) 0 ≡ b
-          → summaryRefusal (cond b (figuresOf (sizesOf (filmsOf s) k)) (Refused (refusal (summaryQuestions s k)))) ≡ refusal (summaryQuestions s k)
-      go true e = sym (eqb-true _ _ e)
-      go false e = refl
+      xs : List ℕ
+      xs = sizesOf (filmsOf s) k
 
-  -- the values are the film's total, largest size and mean
-  pub summary-values : refusal (summaryQuestions s k) ≡ 0
-      → let xs = sizesOf (filmsOf s) k in summaryValues (summaryOf s k) ≡ sum xs ∷ largest xs ∷ mean (sum xs) (length xs) ∷ []
-  unfolding summaryOf figuresOf
-  summary-values e = rw (eq-eqb _ _ e)
+      number : (n : ℕ) → summaryRefusal (cond (eqb n 0) (figuresOf xs) (Refused n)) ≡ n
+      number zero = refl
+      number (suc n) = rw (ne-eqb (suc n) 0 (λ e. omega arith))
+
+      values : (n : ℕ) → summaryValues (cond (eqb n 0) (figuresOf xs) (Refused n)) ≡ valuesIf n (figures xs)
+      values zero = refl
+      values (suc n) = rw (ne-eqb (suc n) 0 (λ e. omega arith))
 
 -- ---- a turn of the loop over a film's sizes
 

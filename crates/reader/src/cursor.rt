@@ -3,7 +3,7 @@ ghost use mathlib.Core.Path.{_≡_};
 ghost use Prim.Native.Nat.{_-_, _<_, _^_};
 ghost use lib.ListN.{getD};
 ghost use Rattle.films.specs.Questions.{half};
-ghost use Rattle.reader.specs.Reader.{startOf, stepOf};
+ghost use Rattle.reader.specs.Reader.{startOf, Gives};
 use crate::types::Entry;
 use crate::types::Reader;
 use crate::types::Step;
@@ -44,9 +44,11 @@ pub fn start(file: &[u8]) -> Reader
     }
 }
 
-// The entry at the reader's position, and the reader moved past it; at the end it says so, and stays there.
+// The entry at the reader's position, and the reader moved past it; at the end it says so, and stays there. It gives what the bytes
+// and the reader that it is handed say: a number other than 0 in the reader's refusal is given as it stands; with 0 there the entry is
+// read from these bytes, 0 for a byte past their end, also where the reader was started on other bytes.
 pub fn next(file: &[u8], reader: Reader) -> Step
-    ensures { λ r. ⌜ r ≡ stepOf (now (file .entry)) reader ⌝ }
+    ensures { λ r. ⌜ Gives (now (file .entry)) reader r ⌝ }
 {
     let refusal = reader.refusal;
     let position = reader.position;

@@ -1,6 +1,9 @@
 // A film's summary.
 ghost use mathlib.Core.Path.{_≡_};
 ghost use Prim.Native.Nat.{_≤_};
+ghost use Rattle.laws.specs.Questions.{Answers};
+ghost use Rattle.films.specs.Layout.{sizesOf};
+ghost use Rattle.films.specs.Decode.{filmsOf};
 ghost use Rattle.films.specs.Sizes.{sizes, Stored};
 ghost use Rattle.reader.specs.Summary as spec;
 use crate::types::Summary;
@@ -43,7 +46,8 @@ fn figures(file: &[u8], at: usize, n: usize) -> Summary
 
 // The summary of a film, for any file and any number.
 pub fn summary(file: &[u8], film: u64) -> Summary
-    ensures { λ r. ⌜ r ≡ spec.summaryOf (now (file .entry)) film ⌝ }
+    ensures answer { λ r. ⌜ r ≡ spec.summaryOf (now (file .entry)) film ⌝ }
+    ensures said { λ r. ⌜ Answers (spec.summaryQuestions (now (file .entry)) film) (spec.figures (sizesOf (filmsOf (now (file .entry))) film)) (spec.summaryRefusal r) (spec.summaryValues r) ⌝ }
 {
     let c = catalogue(file);
     let refusal = c.verdict;

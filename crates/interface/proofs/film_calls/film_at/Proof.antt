@@ -23,7 +23,7 @@ returns c =
     let a = c .before .before .before .before .args in
     let s = a .file .now in
     c .film-of .ensures
-    ∙ ap filmOf (ap (λ (t : Step). t .entry) (c .before .next .ensures) ∙ ap (λ (r : Reader). stepOf s (record { refusal = r .refusal; position = a .position }) .entry) (c .before .before .start .ensures))
+    ∙ ap filmOf (ap (λ (t : Step). t .entry) (c .before .next .ensures .0) ∙ ap (λ (r : Reader). stepOf s (record { refusal = r .refusal; position = a .position }) .entry) (c .before .before .start .ensures))
 
 pub film-at-spec : {M : Type 1} → statement M
 film-at-spec = tie.close (tie.spec start-requires next-requires film-of-requires returns)

@@ -12,7 +12,7 @@ figures-of-requires : tie.Need-figures-of-requires
 figures-of-requires c κs = search needs
 
 returns : tie.Need-returns
-returns c = c .figures-of .ensures ∙ ap figuresOf (c .before .summary .ensures)
+returns c = c .figures-of .ensures ∙ ap figuresOf (c .before .summary .ensures .0)
 
 pub summary-of-spec : {M : Type 1} → statement M
 summary-of-spec = tie.close (tie.spec summary-requires figures-of-requires returns)

@@ -26,7 +26,7 @@ returns c =
     let z = c .before .least-reserve in (
       c .reserve-of .ensures ∙ ap reserveOf (z .ensures .0),
       accepted-bytes (Least sent (a .cap)) (refusal (reserveQuestions s (a .film) (a .prefetch) (a .cap))) (leastReserve sent (a .cap)) (z .result)
-          (c .reserve-of .result) (z .ensures .0) (c .reserve-of .ensures) (z .ensures .1),
+          (c .reserve-of .result) (z .ensures .0) (c .reserve-of .ensures) (z .ensures .1 .0),
     )
 
 pub reserve-for-spec : {M : Type 1} → statement M

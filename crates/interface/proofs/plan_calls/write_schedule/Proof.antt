@@ -15,7 +15,7 @@ same-length : tie.Need-same-length
 same-length c = search needs
 
 returns : tie.Need-returns
-returns c = (c .number-of .ensures ∙ ap scheduledNumber (c .before .before .before .schedule .ensures .0), c .before .before .before .schedule .ensures .1)
+returns c = (c .number-of .ensures ∙ ap scheduledNumber (c .before .before .before .schedule .ensures .0), c .before .before .before .schedule .ensures .1 .0)
 
 pub write-schedule-spec : {M : Type 1} → statement M
 write-schedule-spec =

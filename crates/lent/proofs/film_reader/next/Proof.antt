@@ -50,7 +50,7 @@ use denote.Struct.Values.{Values}
 use mir.Raw.{raw as rawTy}
 use denote.Struct.Laws as LL
 use denote.Enum.Laws as EL
-use Rattle.reader.specs.Reader.{stepOf}
+use Rattle.reader.specs.Reader.{stepOf, Gives}
 use Rattle.reader.proofs.types.Reader as C
 use Rattle.reader.proofs.types.Reader.Laws as C′
 use Rattle.lent.specs.FilmReader.{cursorOf}
@@ -157,8 +157,8 @@ module _ {M : Type 1} (𝓤 : URA M) (H : Heap 𝓤) (A : Atoms 𝓤) (W : Given
       qed W ((‵ (flft κ′ q′) ⊛ ‵ ftrue) ∷ ‵ (ShrSlice (named 0) κ′ u8 .own (h .file) (v ∷ [])) ∷ []) ∵ nothing ! $
       owned ! (R cursor) (Is (R cursor)) (makes cursor 𝓤 H A) (cursorOf h) _ (LL.owes (cursor .type) (cursor .laws) (cursorOf h) ((refl, gr), ((refl, gp), tt))) $ fjoin ! $ move ! (2 ∷ 0 ∷ []) $ fjoin ! $ move ! (1 ∷ 0 ∷ []) $ join ! $ frame ! $ done !
 
-  said : (z : Step) → ent 𝓤 (ensured 𝓤 H A nx.ended (nx.clauses 𝓤 H A mem run) (κ′, tt) (h .file, (cursorOf h, tt)) tt z) (fact 𝓤 (z ≡ stepOf (h .file .now) (cursorOf h)))
-  said z = exE 𝓤 _ (λ ws. snd∗ 𝓤 (sem 𝓤 H A (lasts nx.ended (κ′, tt) (h .file, (cursorOf h, tt)) ws)) (fact 𝓤 (z ≡ stepOf (h .file .now) (cursorOf h))))
+  said : (z : Step) → ent 𝓤 (ensured 𝓤 H A nx.ended (nx.clauses 𝓤 H A mem run) (κ′, tt) (h .file, (cursorOf h, tt)) tt z) (fact 𝓤 (Gives (h .file .now) (cursorOf h) z))
+  said z = exE 𝓤 _ (λ ws. snd∗ 𝓤 (sem 𝓤 H A (lasts nx.ended (κ′, tt) (h .file, (cursorOf h, tt)) ws)) (fact 𝓤 (Gives (h .file .now) (cursorOf h) z)))
 
   module _ (C : Calls 𝓤 H) (Λ : Loops 𝓤 H) (fm : FmC 𝓤 H (W .laws) C) (known : Triple 𝓤 (C #reader·cursor·next) (Next 𝓤 H A mem run)) where
     walk : ent 𝓤 (onEntry 𝓤 H A f.signature (κ, (κ′, tt)) (q, (q′, tt)) x at) (WpFn 𝓤 H C Λ code.function (vptr b o ∷ []) Post)
@@ -184,7 +184,7 @@ module _ {M : Type 1} (𝓤 : URA M) (H : Heap 𝓤) (A : Atoms 𝓤) (W : Given
         move ! (7 ∷ 0 ∷ []) $ use2 W (raw (Next 𝓤 H A mem run .pre to)) (goes gr gp) $
         calls-at ! fm (Next 𝓤 H A mem run) known to (and-then ! (load ! (from ! (stop !)) (look ! 8 refl)) (and-then ! (load ! (from ! (stop !)) (look ! 18 refl)) (no-more !))) (λ u.
         use1 W (later (some (λ (z : Step). ((‵ (flft κ′ q′) ⊛ ‵ ftrue) ⊛ ‵ (R step .own z (u ∷ []))) ⊛ raw (ensured 𝓤 H A nx.ended (nx.clauses 𝓤 H A mem run) (κ′, tt) (h .file, (cursorOf h, tt)) tt z)))) (id⊢ 𝓤 _) $ await ! tt $ pick ! (λ z.
-        split ! $ move ! (1 ∷ []) $ use1 W (raw (fact 𝓤 (z ≡ stepOf (h .file .now) (cursorOf h)))) (said z) $ heard ! (z ≡ stepOf (h .file .now) (cursorOf h)) (λ e. split ! $ move ! (1 ∷ []) $ facts ! (R step) (Is (R step)) (shows 𝓤 H A (R step)) z (u ∷ []) (λ is.
+        split ! $ move ! (1 ∷ []) $ use1 W (raw (fact 𝓤 (Gives (h .file .now) (cursorOf h) z))) (said z) $ heard ! (Gives (h .file .now) (cursorOf h) z) (λ e. split ! $ move ! (1 ∷ []) $ facts ! (R step) (Is (R step)) (shows 𝓤 H A (R step)) z (u ∷ []) (λ is.
         let zs = LL.owed (step .type) (step .laws) z (u ∷ []) is in let ge : Is E.the-row (z .entry) (entry-val z ∷ []) = zs .0 in let gc : Is (R cursor) (z .reader) (reader-val z ∷ []) = zs .1 .0 in let cs = LL.owed (cursor .type) (cursor .laws) (z .reader) (reader-val z ∷ []) gc in
         land ! (from ! (stop !)) (init ! 16 refl (LL.lawful (step .type) (step .laws) 𝓤 H A W .typed z _ is .0)) $
         rewrite ! 16 (λ (t : Val). ‵ (fat fullShare (cell step) l₃ 0 t)) (ap only (tells step z (u ∷ []) is)) refl $
@@ -197,7 +197,7 @@ module _ {M : Type 1} (𝓤 : URA M) (H : Heap 𝓤) (A : Atoms 𝓤) (W : Given
         move ! (0 ∷ 1 ∷ 4 ∷ 5 ∷ 6 ∷ []) $ closes ! tt (B κ′) (past z) (T′.lowered (past z) ∷ []) b o $
         returns ! (look ! 20 refl) $ forget ! 6 refl $ forget ! 8 refl $ forget ! 10 refl $ forget ! 12 refl $ forget ! 14 refl $ forget ! 16 refl $ forget ! 18 refl $ forget ! 20 refl $
         move ! (20 ∷ 21 ∷ []) $ free1 ! $ move ! (18 ∷ 19 ∷ []) $ free1 ! $ move ! (16 ∷ 17 ∷ []) $ free1 ! $ move ! (14 ∷ 15 ∷ []) $ free1 ! $ move ! (12 ∷ 13 ∷ []) $ free1 ! $ move ! (10 ∷ 11 ∷ []) $ free1 ! $ move ! (8 ∷ 9 ∷ []) $ free1 ! $ move ! (6 ∷ 7 ∷ []) $ free1 ! $ free0 ! $
-        keep ! (0 ∷ 1 ∷ 2 ∷ 3 ∷ []) $ by ! (exits z ge e))))))))))))))))
+        keep ! (0 ∷ 1 ∷ 2 ∷ 3 ∷ []) $ by ! (exits z ge (e .0)))))))))))))))))
 
 module _ {M : Type 1} (𝓤 : URA M) (H : Heap 𝓤) (A : Atoms 𝓤) (W : Given 𝓤 H A) (mem : Memory → SProp 𝓤) (run : Routine → Fun 𝓤) where
   walks : (C : Calls 𝓤 H) (Λ : Loops 𝓤 H) → FmC 𝓤 H (W .laws) C → Triple 𝓤 (C #reader·cursor·next) (Next 𝓤 H A mem run) → Walks 𝓤 H A f.ended stayed (WpFn 𝓤 H C Λ code.function) (f.clauses 𝓤 H A mem run)

@@ -1,8 +1,7 @@
 -- `planning::reserves::least_reserve` meets its contract: the file's questions, the film's, and the rest by `least`.
 -- Assumes nothing.
-use mathlib.Core.Path.{sym, _∙_}
 use borrow.Author.Needs.{needs}
-use Rattle.planning.specs.FileAnswers.{made-verdict, made-accepted, made-found, made-missing, reserve-file, reserve-missing, reserve-found, reserved-least}
+use Rattle.planning.specs.FileAnswers.{made-verdict, made-accepted, made-found, made-missing, reserve-file, reserve-missing, reserve-found, reserved-said}
 use Rattle.planning.proofs.reserves.least_reserve.Statement.{statement}
 use Rattle.planning.proofs.reserves.least_reserve.Tie as tie
 
@@ -15,7 +14,7 @@ returns c =
     let s = a .file .now in
     let made = c .before .before .catalogue in
     let e = reserve-file s (a .film) (a .p) (a .cap) (made .result .verdict) (made-verdict s (made .result) (made .ensures)) (c .if1 .taken) in
-    (e, λ b d. reserved-least s (a .film) (a .p) (a .cap) b (sym e ∙ d))
+    reserved-said s (a .film) (a .p) (a .cap) _ e
 
 lookup-requires : tie.Need-lookup-requires
 lookup-requires c κs = search needs
@@ -46,7 +45,7 @@ returns-2 c =
     let ok = made-accepted s (made .result) (made .ensures) (looked .before .if1 .left) in
     let film = made-found s (a .film) (found .0 .0) (found .0 .1 .0) (made .result) (looked .lookup .result) ok (made .ensures) (looked .lookup .ensures) (found .1) in
     let e = reserve-found s (a .film) (a .p) (a .cap) (found .0 .0) (found .0 .1 .0) (c .least .result) ok film (c .least .ensures) in
-    (e, λ b d. reserved-least s (a .film) (a .p) (a .cap) b (sym e ∙ d))
+    reserved-said s (a .film) (a .p) (a .cap) _ e
 
 returns-3 : tie.Need-returns-3
 returns-3 c =
@@ -57,7 +56,7 @@ returns-3 c =
     let ok = made-accepted s (made .result) (made .ensures) (looked .before .if1 .left) in
     let none = made-missing s (a .film) (made .result) (looked .lookup .result) ok (made .ensures) (looked .lookup .ensures) (c .enum-told .given .1) in
     let e = reserve-missing s (a .film) (a .p) (a .cap) ok none in
-    (e, λ b d. reserved-least s (a .film) (a .p) (a .cap) b (sym e ∙ d))
+    reserved-said s (a .film) (a .p) (a .cap) _ e
 
 pub least-reserve-spec : {M : Type 1} → statement M
 least-reserve-spec =

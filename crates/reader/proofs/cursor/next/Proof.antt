@@ -1,7 +1,7 @@
 -- `reader::cursor::next` meets its contract: one of the three cases of a step. Assumes nothing.
 use mathlib.Core.Path.{sym}
 use native.Mathlib.Omega.{arith}
-use Rattle.reader.specs.ReaderLaws.{step-refused, step-film, step-end}
+use Rattle.reader.specs.ReaderLaws.{gives, step-refused, step-film, step-end}
 use borrow.Author.Needs.{needs}
 use Rattle.reader.proofs.cursor.next.Statement.{statement}
 use Rattle.reader.proofs.cursor.next.Tie as tie
@@ -11,7 +11,9 @@ abbrev start : tie.Else1 → tie.Start
 start c = c .before .before
 
 returns : tie.Need-returns
-returns c = sym (step-refused (c .before .before .args .file .now) (c .before .before .args .reader) (c .if1 .taken))
+returns c =
+    let a = c .before .before .args in
+    gives (a .file .now) (a .reader) _ (sym (step-refused (a .file .now) (a .reader) (c .if1 .taken)))
 
 half-or-zero-requires : tie.Need-half-or-zero-requires
 half-or-zero-requires c κs = search needs
@@ -26,7 +28,7 @@ returns-2 : tie.Need-returns-2
 returns-2 c =
     let e = c .before .before .before in
     let a = start e .args in
-    sym (step-end (a .file .now) (a .reader) (e .if1 .left) (omega arith))
+    gives (a .file .now) (a .reader) _ (sym (step-end (a .file .now) (a .reader) (e .if1 .left) (omega arith)))
 
 mul-half-or-zero : tie.Need-mul-half-or-zero
 mul-half-or-zero c = search needs
@@ -54,7 +56,8 @@ returns-3 c =
     let n = c .before in
     let e = n .before .before .before .before in
     let a = start e .args in
-    rw (n .half-or-zero2 .ensures, c .half-or-zero3 .ensures) (sym (step-film (a .file .now) (a .reader) (e .if1 .left) (omega arith)))
+    rw (n .half-or-zero2 .ensures, c .half-or-zero3 .ensures)
+    (gives (a .file .now) (a .reader) _ (sym (step-film (a .file .now) (a .reader) (e .if1 .left) (omega arith))))
 
 pub next-spec : {M : Type 1} → statement M
 next-spec =

@@ -1,10 +1,17 @@
 -- `reader::summary::summary` meets its contract: by the catalogue's verdict and the lookup's answer. Assumes nothing.
 use mathlib.Core.Path.{_≡_, sym, ap, _∙_}
+use mathlib.Core.List.{List}
+use Prim.Native.Nat.{ℕ}
+use Rattle.laws.specs.Questions.{Answers}
+use Rattle.films.specs.Layout.{sizesOf}
+use Rattle.films.specs.Decode.{filmsOf}
 use Rattle.films.specs.Questions.{verdict}
 use Rattle.films.specs.Catalogue.{catalogueOf, catalogue-verdict}
 use Rattle.films.specs.Lookup.{lookupIn, FoundAt, says-found, says-missing}
-use Rattle.reader.specs.Summary.{figuresOf}
-use Rattle.reader.specs.SummaryLaws.{summary-refused, summary-missing, summary-found}
+use Rattle.reader.specs.Summary as spec
+use Rattle.reader.specs.Summary.{figuresOf, summaryQuestions, summaryOf, summaryRefusal, summaryValues}
+use Rattle.reader.specs.declared.types.Summary.{Summary}
+use Rattle.reader.specs.SummaryLaws.{summary-answers, summary-refused, summary-missing, summary-found}
 use borrow.Author.Needs.{needs}
 use Rattle.reader.proofs.summary.summary.Statement.{statement}
 use Rattle.reader.proofs.summary.summary.Tie as tie
@@ -33,6 +40,11 @@ found c =
     let e = sym (looked l) ∙ c .found .given .1 in
     says-found (a .file .now) (accepted (l .before)) (a .film) (c .found .given .0 .0) (c .found .given .0 .1 .0) e
 
+-- an answer that is the summary has the paper's number and values
+said : (s : List ℕ) (k : ℕ) (r : Summary) → r ≡ summaryOf s k
+    → (r ≡ summaryOf s k) × Answers (summaryQuestions s k) (spec.figures (sizesOf (filmsOf s) k)) (summaryRefusal r) (summaryValues r)
+said s k r e = (e, summary-answers s k r e)
+
 catalogue-requires : tie.Need-catalogue-requires
 catalogue-requires c κs = search needs
 
@@ -40,7 +52,7 @@ returns : tie.Need-returns
 returns c =
     let a = c .before .before .before .args in
     let e = verdict-is (c .before) in
-    rw e (sym (summary-refused (a .file .now) (a .film) (λ z. c .if1 .taken (e ∙ z))))
+    said (a .file .now) (a .film) _ (rw e (sym (summary-refused (a .file .now) (a .film) (λ z. c .if1 .taken (e ∙ z)))))
 
 lookup-requires : tie.Need-lookup-requires
 lookup-requires c κs = search needs
@@ -59,7 +71,7 @@ returns-2 c =
     let f = found (c .before .before) in
     let e = c .before .before .before .before .before in
     let a = start e .args in
-    c .figures .ensures ∙ ap figuresOf (sym (f .are)) ∙ sym (summary-found (a .file .now) (a .film) (accepted e) (f .inside))
+    said (a .file .now) (a .film) _ (c .figures .ensures ∙ ap figuresOf (sym (f .are)) ∙ sym (summary-found (a .file .now) (a .film) (accepted e) (f .inside)))
 
 returns-3 : tie.Need-returns-3
 returns-3 c =
@@ -67,7 +79,7 @@ returns-3 c =
     let a = start (l .before) .args in
     let e = accepted (l .before) in
     let m = says-missing (a .file .now) e (a .film) (sym (looked l) ∙ c .enum-told .given .1) in
-    sym (summary-missing (a .file .now) (a .film) e m)
+    said (a .file .now) (a .film) _ (sym (summary-missing (a .file .now) (a .film) e m))
 
 pub summary-spec : {M : Type 1} → statement M
 summary-spec =
