@@ -4,7 +4,7 @@ pub mod standing;
 
 use crate::removal::close_gap;
 use crate::removal::position;
-use crate::standing::lay_standing;
+use crate::standing::sum_standing;
 use films::catalogue::catalogue;
 use films::types::Catalogue;
 use limits::bounds::MAX_BOOKINGS;
@@ -54,7 +54,7 @@ pub fn drop_standing(
         };
     }
     let rest = close_gap(rows, count, i);
-    lay_standing(file, c, day, rest, count - 1, opens, reserves, helds);
+    sum_standing(file, c, day, rest, count - 1, opens, reserves, helds);
     DropOutcome {
         answer: Answer::Dropped,
         day: Day {

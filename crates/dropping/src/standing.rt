@@ -11,7 +11,7 @@ ghost use Rattle.questions.specs.SheetOf.{SheetOf};
 ghost use Rattle.dropping.specs.Standing.{Stands};
 
 // Works the sheet's first T places out from the first `count` records, a sound list.
-pub fn lay_standing(
+pub fn sum_standing(
     file: &[u8],
     c: Catalogue,
     day: Day,

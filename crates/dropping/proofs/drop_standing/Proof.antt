@@ -29,11 +29,11 @@ close-gap-requires c κs =
     let held = stands (a .file .now) (a .day) (a .rows) (a .places) (a .opens .now) (a .reserves .now) (a .helds .now) 0 (sym (start .pre .1)) refl in
     (omega (arith, at .position .ensures .within, c .if1 .left), held .few)
 
-sub-lay-standing : tie.Need-sub-lay-standing
-sub-lay-standing c = search needs
+sub-sum-standing : tie.Need-sub-sum-standing
+sub-sum-standing c = search needs
 
-lay-standing-requires : tie.Need-lay-standing-requires
-lay-standing-requires c κs =
+sum-standing-requires : tie.Need-sum-standing-requires
+sum-standing-requires c κs =
     let closed = c .before .before .before in
     let found = closed .before in
     let at = found .before in
@@ -65,10 +65,10 @@ returns-2 c =
     let start = at .before .before .before .before .before in
     let a = start .args in
     let held = stands (a .file .now) (a .day) (a .rows) (a .places) (a .opens .now) (a .reserves .now) (a .helds .now) 0 (sym (start .pre .1)) refl in
-    let after = laid .lay-standing .last .1 .1 .1 .1 .1 in
+    let after = laid .sum-standing .last .1 .1 .1 .1 .1 in
     accepted-drops (a .file .now) (a .day) (a .rows) (a .places) (a .opens .now) (a .reserves .now) (a .helds .now) 0 (sym (start .pre .1)) (a .name) refl
     (at .position .result) (at .position .ensures) (found .if1 .left) (omega (arith, held .few, start)) _ (after .0) (after .1 .0) (after .1 .1 .0) refl refl
-    (closed .close-gap .ensures) (laid .lay-standing .ensures)
+    (closed .close-gap .ensures) (laid .sum-standing .ensures)
 
 pub drop-standing-spec : {M : Type 1} → statement M
 drop-standing-spec =
@@ -77,8 +77,8 @@ drop-standing-spec =
     position-requires
     returns
     close-gap-requires
-    sub-lay-standing
-    lay-standing-requires
+    sub-sum-standing
+    sum-standing-requires
     sub-t24
     same-length
     same-length-2

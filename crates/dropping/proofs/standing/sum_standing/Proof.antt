@@ -1,10 +1,10 @@
--- `dropping::standing::lay_standing` meets its contract: the streams of a sound list are playable, and what they hold in a round, the
+-- `dropping::standing::sum_standing` meets its contract: the streams of a sound list are playable, and what they hold in a round, the
 -- bookings do. Assumes nothing.
 use native.Mathlib.Omega.{arith}
 use borrow.Author.Needs.{needs}
 use Rattle.dropping.specs.StandingLaws.{stands-summable, summed-worked}
-use Rattle.dropping.proofs.standing.lay_standing.Statement.{statement}
-use Rattle.dropping.proofs.standing.lay_standing.Tie as tie
+use Rattle.dropping.proofs.standing.sum_standing.Statement.{statement}
+use Rattle.dropping.proofs.standing.sum_standing.Tie as tie
 
 streams-of-requires : tie.Need-streams-of-requires
 streams-of-requires c κs = search needs
@@ -36,8 +36,8 @@ returns c =
     summed-worked (a .file .now) (a .c) (a .day) (a .rows) (a .count) (a .opens .now) (a .reserves .now) (a .helds .now) (start .pre) (omega (arith, start))
     (made .streams-of .result) (made .streams-of .ensures) (after .0) (after .1 .0) (after .1 .1 .0) (laid .sum-sheet .ensures)
 
-pub lay-standing-spec : {M : Type 1} → statement M
-lay-standing-spec =
+pub sum-standing-spec : {M : Type 1} → statement M
+sum-standing-spec =
     tie.close
     (tie.spec
     streams-of-requires
