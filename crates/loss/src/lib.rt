@@ -1,10 +1,13 @@
 // The disk loss: what a round with k films open loses to arm movement.
 use limits::bounds::MAX_BOOKINGS;
 ghost use mathlib.Core.Path.{_≡_};
-ghost use Rattle.loss.specs.Loss.{lossAt};
+ghost use Rattle.loss.specs.Loss.{table, lossAt};
+
+// entries of the table
+pub const ENTRIES: usize = 257;
 
 // loss(k) in bytes, k from 0 to 256
-const LOSS: [u64; 257] = [
+const LOSS: [u64; ENTRIES] = [
     0,
     100000,
     141421,
@@ -273,4 +276,11 @@ pub fn loss(k: u64) -> u64
     } else {
         0
     }
+}
+
+// The whole table, for a caller that asks of many rounds.
+pub fn table() -> [u64; ENTRIES]
+    ensures { λ r. ⌜ r ≡ table ⌝ }
+{
+    LOSS
 }

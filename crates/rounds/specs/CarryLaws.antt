@@ -2,7 +2,7 @@
 use mathlib.Core.Path.{_≡_, sym, _∙_}
 use mathlib.Core.Bool.{Bool, true, false}
 use mathlib.Core.List.{List}
-use Prim.Native.Nat.{ℕ, suc, _+_, _-_, _≤_, _<_}
+use Prim.Native.Nat.{ℕ, suc, _+_, _-_, _≤_, _<_, min}
 use native.Mathlib.Decide.{decLe}
 use native.Mathlib.Omega.{arith}
 use lib.ListN.{length, getD}
@@ -53,3 +53,11 @@ module _ (f : List ℕ) (x : Stream) where
   -- the same round, counted otherwise
   pub carry-round : (c t k : ℕ) → t ≡ k → c ≡ carryFrom f t x → c ≡ carryFrom f k x
   carry-round c t k e h = rw (← e) h
+
+  -- rounds after the booking's end are left out
+  pub carry-cut : (c from n k : ℕ) → k ≡ min n (endOf x - from) → c ≡ carryFrom f (from + n) x → c ≡ carryFrom f (from + k) x
+  carry-cut c from n k e w = go (decLe (endOf x) (from + n))
+    where
+      go : Dec (endOf x ≤ from + n) → c ≡ carryFrom f (from + k) x
+      go (yes h) = w ∙ carry-late (from + n) h ∙ sym (carry-late (from + k) (omega arith))
+      go (no h) = carry-round c (from + n) (from + k) (omega arith) w

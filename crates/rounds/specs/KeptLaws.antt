@@ -6,11 +6,11 @@ use Prim.Native.Nat.{ℕ, zero, suc, _+_, _-_, _≤_, _<_}
 use native.Mathlib.Omega.{arith}
 use lib.Dec.{leb, ltb, eqb}
 use lib.Bits.{bitAnd, bitOr, and-zero-r, or-zero-r, or-add-and, and-le-l, and-le-r}
-use lib.ListN.{length}
+use lib.ListN.{length, getD}
 use borrow.Author.Tests.{le-leb, lt-leb, le-ltb, lt-ltb, leb-true, leb-false, ltb-true, eqb-true, eqb-false, ne-eqb}
 use Rattle.limits.specs.Bounds.{maxBookings}
 use Rattle.laws.specs.Tests.{left, right, below}
-use Rattle.loss.specs.Loss.{lossAt}
+use Rattle.loss.specs.Loss.{table, lossAt, table-length}
 use Rattle.load.specs.Stream.{endOf, openIn, showsIn, holdsIn, openCount, reservedIn, heldIn}
 use Rattle.load.specs.StreamLaws.{open-within, open-place, cond-most}
 use Rattle.load.specs.declared.stream.Stream.{Stream}
@@ -176,3 +176,8 @@ module _ (loss : ℕ → ℕ) (D M : ℕ) (s : Sums) where
     pub cabs-decide : s .held ≤ M → eqb (s .twice) 0 ≡ sumsKept loss D M s
     unfolding sumsKept
     cabs-decide h = rw (le-leb (s .reserves + loss (s .films)) D disk, le-leb (s .held) M h)
+
+-- ---- the disk-loss table
+
+pub table-losses : (l : List ℕ) → l ≡ table → Losses l
+table-losses l e = record { size = omega (arith, ap length e, table-length); loss = λ k h. ap (λ (m : List ℕ). getD m k 0) e }

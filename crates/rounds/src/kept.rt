@@ -21,22 +21,6 @@ ghost use Rattle.loss.specs.Loss.{lossAt};
 ghost use Rattle.rounds.specs.Sums.{IsBlock};
 ghost use Rattle.rounds.specs.Kept.{feasible, streamsKept, sumsKept, lossIn, Losses, BlockKept, Testable};
 
-// losses of 0 to 256 films
-const LOSSES: usize = 257;
-
-// The loss of each number of films that may be open.
-fn losses() -> [u64; LOSSES]
-    ensures { λ r. ⌜ Losses r ⌝ }
-{
-    let mut list = [0u64; LOSSES];
-    let mut k = 0;
-    while k < LOSSES {
-        list[k] = loss::loss(k as u64);
-        k += 1;
-    }
-    list
-}
-
 // Whether a round with these sums keeps the limits and shows no cab two films.
 fn sums_kept(s: Sums, losses: &[u64], disk: u64, memory: u64) -> bool
     requires { ⌜ (s .films ≤ maxBookings) × Losses (now losses) ⌝ }
@@ -105,7 +89,7 @@ pub fn rounds_kept(
     if !all_feasible(&marks, count) {
         return false;
     }
-    let lost = losses();
+    let lost = loss::table();
     let mut words = [0u64; BLOCK_WORDS];
     let mut t = 0;
     while t < day_rounds {

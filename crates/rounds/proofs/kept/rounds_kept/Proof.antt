@@ -13,7 +13,7 @@ use Rattle.rounds.specs.Rows.{active}
 use Rattle.rounds.specs.Sums.{none, sumsIn}
 use Rattle.rounds.specs.SumLaws.{sums-active}
 use Rattle.rounds.specs.Kept.{keptIn, feasible, sumsKept, inRounds, lossIn}
-use Rattle.rounds.specs.KeptLaws.{rounds-below, rounds-block, kept-sums}
+use Rattle.rounds.specs.KeptLaws.{rounds-below, rounds-block, kept-sums, table-losses}
 use Rattle.rounds.proofs.kept.rounds_kept.Statement.{statement}
 use Rattle.rounds.proofs.kept.rounds_kept.Tie as tie
 
@@ -23,7 +23,7 @@ and-none true b e = e
 and-none false b e = refl
 
 abbrev Inv-loop : tie.InvT-loop
-Inv-loop file xs count day-rounds disk memory marks lost words₀ t₀ words t = (t ≤ day-rounds) × (length words ≡ 16000) × (inRounds 0 day-rounds (keptIn file lossAt disk memory (take count xs)) ≡ inRounds t (day-rounds - t) (keptIn file lossAt disk memory (take count xs)))
+Inv-loop file xs count day-rounds disk memory marks lost words₀ t₀ words t = (t ≤ day-rounds) × (length words ≡ 5000) × (inRounds 0 day-rounds (keptIn file lossAt disk memory (take count xs)) ≡ inRounds t (day-rounds - t) (keptIn file lossAt disk memory (take count xs)))
 
 abbrev μ-loop : tie.MeasureT-loop
 μ-loop file xs count day-rounds disk memory marks lost words₀ t₀ words t = day-rounds - t
@@ -51,14 +51,14 @@ returns c =
     sym (asked .ensures f (a .xs) (omega (arith, start .pre .few)) (marked .mark-streams .ensures)) ∙ not-true (asked .result) (c .if1 .taken) in
     rw none
 
-losses-requires : tie.Need-losses-requires Inv-loop μ-loop
-losses-requires c κs = search needs
+table-requires : tie.Need-table-requires Inv-loop μ-loop
+table-requires c κs = search needs
 
 loop-holds : tie.Need-loop-holds Inv-loop μ-loop
 loop-holds c =
     let T = c .before .before .before .before .before .before .before .before .args .day-rounds in
     let e : T - 0 ≡ T = omega arith in
-    (omega arith, length-replicate {A = ℕ} 16000 0, rw e)
+    (omega arith, length-replicate {A = ℕ} 5000 0, rw e)
 
 slice-aggregate-look : tie.Need-slice-aggregate-look Inv-loop μ-loop
 slice-aggregate-look c = search needs
@@ -76,7 +76,10 @@ slice-aggregate-block-kept-2 : tie.Need-slice-aggregate-block-kept-2 Inv-loop μ
 slice-aggregate-block-kept-2 c = search needs
 
 block-kept-requires : tie.Need-block-kept-requires Inv-loop μ-loop
-block-kept-requires c κs = search needs
+block-kept-requires c κs =
+    let looked = c .before .before .before .look in
+    let lost = c .before .before .before .before .before .before .before .before .table in
+    ((_, _, looked .ensures .block), table-losses (lost .result) (lost .ensures))
 
 returns-2 : tie.Need-returns-2 Inv-loop μ-loop
 returns-2 c =
@@ -84,7 +87,7 @@ returns-2 c =
     let looked = c .before .before .before .before .before .look in
     let l = c .before .before .before .before .before .before .before .before .before .loop in
     let lost-at = c .before .before .before .before .before .before .before .before .before .before in
-    let lost = lost-at .losses in
+    let lost = lost-at .table in
     let start = lost-at .before .before .before .before .before .before .before .before in
     let a = start .args in
     let f = a .file .now in
@@ -98,7 +101,7 @@ returns-2 c =
     let same : (k : ℕ) → l .t ≤ k → k < end → q k ≡ p k =
     λ k u v.
     ap (sumsKept (lossIn (lost .result)) (a .disk) (a .memory)) (sums-active f k (l .t) end u v none ys)
-    ∙ kept-sums f (lost .result) (a .disk) (a .memory) ys k (lost .ensures) (omega (arith, length-take (a .count) (a .xs), start .pre .few)) in
+    ∙ kept-sums f (lost .result) (a .disk) (a .memory) ys k (table-losses (lost .result) (lost .ensures)) (omega (arith, length-take (a .count) (a .xs), start .pre .few)) in
     let block = l .inv .2 ∙ rounds-block p q (l .t) (looked .result .rounds) (a .day-rounds) (asked .result) (found .within) same told in
     let no = not-true (asked .result) (c .if2 .taken) in
     let kept = sym (sym (rounds-below p (a .day-rounds)) ∙ block ∙ ap (λ (r : Bool). r && inRounds end (a .day-rounds - end) p) no) in
@@ -116,7 +119,7 @@ loop-again c =
     let looked = c .before .before .before .before .before .before .look in
     let l = c .before .before .before .before .before .before .before .before .before .before .loop in
     let lost-at = c .before .before .before .before .before .before .before .before .before .before .before in
-    let lost = lost-at .losses in
+    let lost = lost-at .table in
     let start = lost-at .before .before .before .before .before .before .before .before in
     let a = start .args in
     let f = a .file .now in
@@ -130,7 +133,7 @@ loop-again c =
     let same : (k : ℕ) → l .t ≤ k → k < end → q k ≡ p k =
     λ k u v.
     ap (sumsKept (lossIn (lost .result)) (a .disk) (a .memory)) (sums-active f k (l .t) end u v none ys)
-    ∙ kept-sums f (lost .result) (a .disk) (a .memory) ys k (lost .ensures) (omega (arith, length-take (a .count) (a .xs), start .pre .few)) in
+    ∙ kept-sums f (lost .result) (a .disk) (a .memory) ys k (table-losses (lost .result) (lost .ensures)) (omega (arith, length-take (a .count) (a .xs), start .pre .few)) in
     let block = l .inv .2 ∙ rounds-block p q (l .t) (looked .result .rounds) (a .day-rounds) (asked .result) (found .within) same told in
     let yes = not-false (asked .result) (c .before .if2 .left) in
     (found .within, looked .kept .1 .1 .1 .1 .1 .1 .0 ∙ l .inv .1, block ∙ ap (λ (r : Bool). r && inRounds end (a .day-rounds - end) p) yes)
@@ -163,7 +166,7 @@ rounds-kept-spec =
     slice-aggregate-all-feasible
     all-feasible-requires
     returns
-    losses-requires
+    table-requires
     loop-holds
     slice-aggregate-look
     slice-aggregate-look-2
