@@ -1,8 +1,8 @@
 //! The films and days that are measured, all from fixed seeds.
 
-use crate::fast::calls::Lists;
 use crate::fast::film_file::Catalogue;
 use crate::fast::retrieval::write_held;
+use crate::fast::sheet::{Lists, Row};
 use crate::fast::standing::{stream_of, Stream};
 use crate::fast::Fast;
 use crate::scheduler::{Opening, Scheduler, Sheet};
@@ -126,13 +126,17 @@ impl Fixture {
     pub fn lay_sheet(&mut self) {
         let catalogue = Catalogue::read(&self.file).expect("the films are legal");
         let mut lists = Lists::of(&mut self.sheet, self.day.rounds).expect("the lists are long");
-        lists.clear();
-        for record in &self.records[..self.day.count as usize] {
+        let standing = self.records[..self.day.count as usize].iter();
+        let held = standing.map(|record| {
             let stream = stream_of(&catalogue, record).expect("the record is legal");
             let mut profile = vec![0; stream.open_rounds()];
             assert!(write_held(stream.sizes, stream.reserve, &mut profile));
-            lists.add(&stream, stream.start, &profile);
-        }
+            (stream, profile)
+        });
+        let held: Vec<_> = held.collect();
+        let rows = held.iter();
+        let rows = rows.map(|(stream, profile)| Row::new(stream, stream.start, profile));
+        lists.sum(&mut rows.collect::<Vec<_>>());
     }
 
     /// Over the starts of the request's window, the least of the largest values that `value` has in the rounds it would be open, where

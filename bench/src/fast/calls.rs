@@ -3,80 +3,12 @@
 use super::film_file::{bytes, Catalogue};
 use super::retrieval::{carry_of, write_held, MAX_OPEN};
 use super::search::Search;
-use super::standing::{add_each, ask_day, ask_list, Segments, Standing, Stream};
+use super::sheet::{Lists, Row};
+use super::standing::{ask_day, ask_list, Stream, Wanted};
 use crate::scheduler::{Opening, Sheet};
 use playback::lent::Reply;
 use playback::limits::MAX_BOOKINGS;
 use playback::{Booking, Day, Line, Refusal, Request};
-
-/// 11: the sheet's first T places.
-pub struct Lists<'a> {
-    pub opens: &'a mut [u64],
-    pub reserves: &'a mut [u64],
-    pub helds: &'a mut [u64],
-}
-
-impl Lists<'_> {
-    pub fn of(sheet: &mut Sheet, rounds: u64) -> Result<Lists<'_>, Refusal> {
-        let rounds = rounds as usize;
-        let opens = sheet.opens.get_mut(..rounds).ok_or(Refusal::NoRoom)?;
-        let reserves = sheet.reserves.get_mut(..rounds).ok_or(Refusal::NoRoom)?;
-        let helds = sheet.helds.get_mut(..rounds).ok_or(Refusal::NoRoom)?;
-        Ok(Lists {
-            opens,
-            reserves,
-            helds,
-        })
-    }
-
-    pub fn clear(&mut self) {
-        self.opens.fill(0);
-        self.reserves.fill(0);
-        self.helds.fill(0);
-    }
-
-    fn write_open(&mut self, segments: &Segments) {
-        for (segment, end) in segments.with_ends(self.opens.len()) {
-            self.opens[segment.from..end].fill(segment.open.into());
-            self.reserves[segment.from..end].fill(segment.reserves);
-        }
-    }
-
-    fn write(&mut self, standing: &Standing) {
-        self.write_open(&standing.segments);
-        let held = &standing.held;
-        let to = held.from + held.bytes.len();
-        self.helds[..held.from].fill(0);
-        self.helds[held.from..to].copy_from_slice(&held.bytes);
-        self.helds[to..].fill(0);
-    }
-
-    /// Adds a stream from a start on, with what it holds by round.
-    pub fn add(&mut self, stream: &Stream, start: usize, profile: &[u64]) {
-        let rounds = start..start + profile.len();
-        for open in &mut self.opens[rounds.clone()] {
-            *open += 1;
-        }
-        for reserves in &mut self.reserves[rounds.clone()] {
-            *reserves += stream.reserve;
-        }
-        add_each(&mut self.helds[rounds], profile);
-    }
-
-    /// Takes a stream out.
-    pub fn subtract(&mut self, stream: &Stream, profile: &[u64]) {
-        let rounds = stream.start..stream.end();
-        for open in &mut self.opens[rounds.clone()] {
-            *open -= 1;
-        }
-        for reserves in &mut self.reserves[rounds.clone()] {
-            *reserves -= stream.reserve;
-        }
-        for (held, less) in self.helds[rounds].iter_mut().zip(profile) {
-            *held -= less;
-        }
-    }
-}
 
 /// 14, 15, 11.
 pub fn open(opening: Opening, sheet: &mut Sheet) -> Result<Reply, Refusal> {
@@ -133,7 +65,7 @@ pub fn book(
     let catalogue = Catalogue::read(file)?;
     ask_day(&day)?;
     let mut lists = Lists::of(sheet, day.rounds)?;
-    let standing = ask_list(&catalogue, &day, records)?;
+    let standing = ask_list(&catalogue, &day, records, Wanted::Profiles)?;
     let count = day.count as usize;
     if find_name(&records[..count], request.name).is_some() {
         return Err(Refusal::NameTaken);
@@ -154,7 +86,6 @@ pub fn book(
     if count == MAX_BOOKINGS || count == records.len() {
         return Err(Refusal::ListFull);
     }
-    lists.write(&standing);
     let search = Search {
         first: request.first as usize,
         last: request.last as usize,
@@ -163,13 +94,14 @@ pub fn book(
         memory: day.memory,
         stream: &stream,
         profile,
-        helds: lists.helds,
         largest: standing.held.largest,
     };
-    let start = search
-        .first_start(&standing.segments, standing.streams())
-        .ok_or(Refusal::NoStart)?;
-    lists.add(&stream, start, profile);
+    let helds = || standing.held.by_round(day.rounds as usize);
+    let found = search.first_start(&standing.segments, standing.streams(), helds);
+    let mut rows = standing.rows();
+    rows.extend(found.map(|start| Row::new(&stream, start, profile)));
+    lists.sum(&mut rows);
+    let start = found.ok_or(Refusal::NoStart)?;
     records[count] = record_of(&request, start);
     Ok(Reply {
         start: start as u64,
@@ -200,15 +132,12 @@ pub fn drop_booking(
     let catalogue = Catalogue::read(file)?;
     ask_day(&day)?;
     let mut lists = Lists::of(sheet, day.rounds)?;
-    let standing = ask_list(&catalogue, &day, records)?;
+    let standing = ask_list(&catalogue, &day, records, Wanted::Profiles)?;
     let records = &mut records[..day.count as usize];
     let place = find_name(records, name).ok_or(Refusal::NoName)?;
-    let stream = &standing.streams()[place];
-    let mut profile = [0; MAX_OPEN];
-    let profile = &mut profile[..stream.open_rounds()];
-    write_held(stream.sizes, stream.reserve, profile);
-    lists.write(&standing);
-    lists.subtract(stream, profile);
+    let mut rows = standing.rows();
+    rows.remove(place);
+    lists.sum(&mut rows);
     remove(records, place);
     Ok(Reply {
         day: Day {
@@ -228,7 +157,7 @@ pub fn play(
 ) -> Result<Reply, Refusal> {
     let catalogue = Catalogue::read(file)?;
     ask_day(&day)?;
-    let standing = ask_list(&catalogue, &day, records)?;
+    let standing = ask_list(&catalogue, &day, records, Wanted::Answer)?;
     if day.now == day.rounds {
         return Err(Refusal::DayOver);
     }

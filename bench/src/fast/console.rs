@@ -2,13 +2,14 @@
 
 use super::film_file::Catalogue;
 use super::replay::Carried;
-use crate::scheduler::{Opening, Sheet};
+use crate::scheduler::Opening;
 use playback::{Booking, Line, Refusal, Request};
 use std::io::{BufRead, Write};
 
 const MAX_FILE: usize = 65_536;
 const MAX_LINE: usize = 200;
-const ROUNDS: usize = 1_024;
+/// Rounds that a day may have.
+const ROUNDS: u64 = 1_024;
 const PLACES: usize = 64;
 
 /// The program's state.
@@ -16,7 +17,6 @@ struct Console<'a> {
     file: &'a [u8],
     carried: Option<Carried<'a>>,
     records: Vec<Booking>,
-    sheet: Sheet,
     lines: Vec<Line>,
 }
 
@@ -87,7 +87,7 @@ impl Console<'_> {
                 let [name] = numbers(fields).ok_or(Refusal::Command)?;
                 let name = u32::try_from(name).map_err(|_| Refusal::Command)?;
                 let carried = self.carried.as_mut().ok_or(Refusal::DayRounds)?;
-                carried.drop_booking(&mut self.records, name, &mut self.sheet)?;
+                carried.drop_booking(&mut self.records, name)?;
                 put_line(output, b"DROPPED", &[name.into()]);
                 Ok(())
             }
@@ -98,7 +98,11 @@ impl Console<'_> {
                     disk,
                     memory,
                 };
-                self.carried = Some(Carried::open(self.file, opening, &mut self.sheet)?);
+                let carried = Carried::open(self.file, opening)?;
+                if rounds > ROUNDS {
+                    return Err(Refusal::NoRoom);
+                }
+                self.carried = Some(carried);
                 put_line(output, b"OPENED", &[]);
                 Ok(())
             }
@@ -119,7 +123,7 @@ impl Console<'_> {
             last,
         };
         let carried = self.carried.as_mut().ok_or(Refusal::DayRounds)?;
-        let start = carried.book(&mut self.records, &request, &mut self.sheet)?;
+        let start = carried.book(&mut self.records, &request)?;
         put_line(output, b"BOOKED", &[name, start]);
         Ok(())
     }
@@ -158,7 +162,6 @@ pub fn serve(file: &[u8], mut input: impl BufRead, mut output: impl Write) {
         file,
         carried: None,
         records: vec![Booking::default(); PLACES],
-        sheet: Sheet::new(ROUNDS),
         lines: Vec::new(),
     };
     // The beginning of a line that has not ended yet, and at most one byte more than a line may have.

@@ -8,6 +8,7 @@ pub mod loss;
 pub mod replay;
 pub mod retrieval;
 pub mod search;
+pub mod sheet;
 pub mod standing;
 
 use crate::scheduler::{Opening, Scheduler, Sheet};

@@ -1,11 +1,12 @@
-//! A day carried on call by call: the file is read once, the list is sound from the start, the sheet is kept up with each call and
-//! every booking's profile is kept.
+//! A day carried on call by call: the file is read once, the list is sound from the start, every booking's profile and the bytes held by
+//! round are kept. The sheet is summed when the calls are done.
 
-use super::calls::{ask_window, find_name, record_of, remove, Lists};
+use super::calls::{ask_window, find_name, record_of, remove};
 use super::film_file::{bytes, Catalogue};
 use super::retrieval::write_held;
 use super::search::Search;
-use super::standing::{ask_day, segments_of, Stream};
+use super::sheet::{Lists, Row};
+use super::standing::{add_each, ask_day, segments_of, Stream};
 use crate::scheduler::{Opening, Sheet};
 use playback::journal::{ANSWER, BOOK, DROP, ENTRY, LINE, PLAY};
 use playback::lent::Replayed;
@@ -18,21 +19,19 @@ struct Kept<'a> {
     profile: Vec<u64>,
 }
 
-/// An open day and the lists that it is lent.
+/// An open day.
 pub struct Carried<'a> {
     /// The film file, or its refusal, which every call answers first.
     catalogue: Result<Catalogue<'a>, Refusal>,
     pub day: Day,
     kept: Vec<Kept<'a>>,
+    /// The bytes held by round of the day.
+    helds: Vec<u64>,
 }
 
 impl<'a> Carried<'a> {
-    /// 14, 15, 11.
-    pub fn open(
-        file: &'a [u8],
-        opening: Opening,
-        sheet: &mut Sheet,
-    ) -> Result<Carried<'a>, Refusal> {
+    /// 14, 15.
+    pub fn open(file: &'a [u8], opening: Opening) -> Result<Carried<'a>, Refusal> {
         let day = Day {
             rounds: opening.rounds,
             disk: opening.disk,
@@ -41,11 +40,11 @@ impl<'a> Carried<'a> {
             count: 0,
         };
         ask_day(&day)?;
-        Lists::of(sheet, day.rounds)?.clear();
         Ok(Carried {
             catalogue: Catalogue::read(file),
             day,
             kept: Vec::new(),
+            helds: vec![0; day.rounds as usize],
         })
     }
 
@@ -54,12 +53,7 @@ impl<'a> Carried<'a> {
     }
 
     /// The start.
-    pub fn book(
-        &mut self,
-        records: &mut [Booking],
-        request: &Request,
-        sheet: &mut Sheet,
-    ) -> Result<u64, Refusal> {
+    pub fn book(&mut self, records: &mut [Booking], request: &Request) -> Result<u64, Refusal> {
         let catalogue = self.catalogue()?;
         let count = self.kept.len();
         if find_name(&records[..count], request.name).is_some() {
@@ -81,8 +75,7 @@ impl<'a> Carried<'a> {
             return Err(Refusal::ListFull);
         }
         let streams: Vec<Stream> = self.kept.iter().map(|kept| kept.stream).collect();
-        let mut lists = Lists::of(sheet, self.day.rounds)?;
-        let reached = &lists.helds[request.first as usize..];
+        let reached = &self.helds[request.first as usize..];
         let reached = &reached[..(request.last - request.first) as usize + profile.len()];
         let search = Search {
             first: request.first as usize,
@@ -92,13 +85,12 @@ impl<'a> Carried<'a> {
             memory: self.day.memory,
             stream: &stream,
             profile: &profile,
-            helds: lists.helds,
             largest: reached.iter().copied().max().unwrap_or(0),
         };
         let start = search
-            .first_start(&segments_of(&streams), &streams)
+            .first_start(&segments_of(&streams), &streams, || &self.helds)
             .ok_or(Refusal::NoStart)?;
-        lists.add(&stream, start, &profile);
+        add_each(&mut self.helds[start..start + profile.len()], &profile);
         stream.start = start;
         self.kept.push(Kept { stream, profile });
         records[count] = record_of(request, start);
@@ -106,17 +98,15 @@ impl<'a> Carried<'a> {
         Ok(start as u64)
     }
 
-    pub fn drop_booking(
-        &mut self,
-        records: &mut [Booking],
-        name: u32,
-        sheet: &mut Sheet,
-    ) -> Result<(), Refusal> {
+    pub fn drop_booking(&mut self, records: &mut [Booking], name: u32) -> Result<(), Refusal> {
         self.catalogue()?;
         let records = &mut records[..self.kept.len()];
         let place = find_name(records, name).ok_or(Refusal::NoName)?;
         let gone = self.kept.remove(place);
-        Lists::of(sheet, self.day.rounds)?.subtract(&gone.stream, &gone.profile);
+        let helds = &mut self.helds[gone.stream.start..gone.stream.end()];
+        for (held, less) in helds.iter_mut().zip(&gone.profile) {
+            *held -= less;
+        }
         remove(records, place);
         self.day.count -= 1;
         Ok(())
@@ -165,6 +155,12 @@ impl<'a> Carried<'a> {
     pub fn next_round(&mut self) {
         self.day.now += 1;
     }
+
+    fn sum(&self, lists: &mut Lists) {
+        let rows = self.kept.iter();
+        let rows = rows.map(|kept| Row::new(&kept.stream, kept.stream.start, &kept.profile));
+        lists.sum(&mut rows.collect::<Vec<_>>());
+    }
 }
 
 /// Carries out the entries of a journal as far as the log takes their words.
@@ -176,7 +172,8 @@ pub fn replay(
     log: &mut [u64],
     sheet: &mut Sheet,
 ) -> Result<Replayed, Refusal> {
-    let mut carried = Carried::open(file, opening, sheet)?;
+    let mut carried = Carried::open(file, opening)?;
+    let mut lists = Lists::of(sheet, opening.rounds)?;
     let mut entries = 0;
     let mut words = 0;
     let mut lines = Vec::new();
@@ -196,10 +193,10 @@ pub fn replay(
                     first: entry[6],
                     last: entry[7],
                 };
-                let start = carried.book(records, &request, sheet);
+                let start = carried.book(records, &request);
                 start.map(|start| (start, 0))
             }
-            (DROP, Ok(name)) => carried.drop_booking(records, name, sheet).map(|()| (0, 0)),
+            (DROP, Ok(name)) => carried.drop_booking(records, name).map(|()| (0, 0)),
             (PLAY, _) => carried.lines(records, entry[1], &mut lines),
             _ => Err(Refusal::Command),
         };
@@ -222,6 +219,7 @@ pub fn replay(
         words += needed;
         entries += 1;
     }
+    carried.sum(&mut lists);
     Ok(Replayed {
         refusal: 0,
         entries,

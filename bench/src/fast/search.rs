@@ -15,8 +15,7 @@ pub struct Search<'a> {
     /// The stream to place, whatever its own start, and what it holds by round.
     pub stream: &'a Stream<'a>,
     pub profile: &'a [u64],
-    /// The bytes held by round of the day, and the most of them.
-    pub helds: &'a [u64],
+    /// The most that the day holds in a round.
     pub largest: u64,
 }
 
@@ -26,19 +25,26 @@ fn pack(from: usize, to: usize) -> u64 {
 }
 
 impl Search<'_> {
-    pub fn first_start(&self, segments: &Segments, streams: &[Stream]) -> Option<usize> {
+    /// The first start that fits. `helds` gives the bytes held by round of the day, and is asked only where memory could be exceeded.
+    pub fn first_start<T: AsRef<[u64]>>(
+        &self,
+        segments: &Segments,
+        streams: &[Stream],
+        helds: impl FnOnce() -> T,
+    ) -> Option<usize> {
         let peak = self.profile.iter().copied().max().unwrap_or(0);
         if peak > self.memory {
             return None;
         }
-        let memory_free = peak + self.largest <= self.memory;
+        let helds = (peak + self.largest > self.memory).then(helds);
+        let helds = helds.as_ref().map(AsRef::as_ref);
         let mut near = 0;
         let mut start = self.first;
         for ruled_out in self.ruled_out(segments, streams) {
             let from = (ruled_out >> 32) as usize;
             if start < from {
                 let starts = start..from.min(self.last + 1);
-                if let Some(found) = self.first_held(starts, memory_free, &mut near) {
+                if let Some(found) = self.first_held(starts, helds, &mut near) {
                     return Some(found);
                 }
             }
@@ -47,7 +53,7 @@ impl Search<'_> {
                 return None;
             }
         }
-        self.first_held(start..self.last + 1, memory_free, &mut near)
+        self.first_held(start..self.last + 1, helds, &mut near)
     }
 
     /// The intervals of starts at which the disk would be passed in some round or a cab show two films, sorted.
@@ -83,13 +89,18 @@ impl Search<'_> {
 
     /// The first of the starts that memory takes. `near` is a round of the stream's own in which a start before was refused: there
     /// the next one sends the same bytes, and in the round before it the day holds the same.
-    fn first_held(&self, starts: Range<usize>, free: bool, near: &mut usize) -> Option<usize> {
-        if free {
+    fn first_held(
+        &self,
+        starts: Range<usize>,
+        helds: Option<&[u64]>,
+        near: &mut usize,
+    ) -> Option<usize> {
+        let Some(helds) = helds else {
             return (!starts.is_empty()).then_some(starts.start);
-        }
+        };
         let rounds = self.profile.len();
         for start in starts {
-            let held = &self.helds[start..start + rounds];
+            let held = &helds[start..start + rounds];
             let over = |round: usize| held[round] + self.profile[round] > self.memory;
             if over(*near) {
                 continue;

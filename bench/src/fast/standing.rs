@@ -3,6 +3,7 @@
 use super::film_file::{Catalogue, Stored};
 use super::loss::loss;
 use super::retrieval::{add_held, write_held, MAX_OPEN};
+use super::sheet::Row;
 use playback::limits::{MAX_BOOKINGS, MAX_DAY, MAX_DISK, MAX_MEMORY, MAX_PREFETCH, MAX_RESERVE};
 use playback::{Booking, Day, Refusal};
 
@@ -76,12 +77,37 @@ pub struct Standing<'a> {
     count: usize,
     pub segments: Segments,
     pub held: Held,
+    profiles: Profiles,
 }
 
 impl<'a> Standing<'a> {
     pub fn streams(&self) -> &[Stream<'a>] {
         &self.streams[..self.count]
     }
+
+    /// The bookings with their profiles, where these were wanted.
+    pub fn rows(&self) -> Vec<Row<'_>> {
+        let mut rows = Vec::with_capacity(self.count + 1);
+        let streams = self.streams().iter().zip(&self.profiles.from);
+        rows.extend(streams.map(|(stream, &from)| {
+            let held = &self.profiles.words[from..from + stream.open_rounds()];
+            Row::new(stream, stream.start, held)
+        }));
+        rows
+    }
+}
+
+/// What is wanted of a list beside its load: nothing, or its profiles too.
+#[derive(Clone, Copy, PartialEq, Eq)]
+pub enum Wanted {
+    Answer,
+    Profiles,
+}
+
+/// What each stream holds by round of its own: the place where its words begin. Equal streams share them.
+struct Profiles {
+    words: Vec<u64>,
+    from: [usize; MAX_BOOKINGS],
 }
 
 /// 14 and 15 of a day.
@@ -100,6 +126,7 @@ pub fn ask_list<'a>(
     catalogue: &Catalogue<'a>,
     day: &Day,
     records: &[Booking],
+    wanted: Wanted,
 ) -> Result<Standing<'a>, Refusal> {
     if day.count > MAX_BOOKINGS as u64 {
         return Err(Refusal::Unsound);
@@ -120,12 +147,13 @@ pub fn ask_list<'a>(
     if !segments.keep(day.disk) || !cabs_differ(standing) {
         return Err(Refusal::Unsound);
     }
-    let held = held_by(standing, day.memory).ok_or(Refusal::Unsound)?;
+    let (held, profiles) = held_by(standing, day.memory, wanted).ok_or(Refusal::Unsound)?;
     Ok(Standing {
         count: records.len(),
         streams,
         segments,
         held,
+        profiles,
     })
 }
 
@@ -248,19 +276,36 @@ fn cabs_differ(streams: &[Stream]) -> bool {
     })
 }
 
-/// The bytes held by round, from the first round in which a booking is open to the last.
+/// The bytes held by round, from the first round in which a booking is open to the last, and the most of them.
 pub struct Held {
     pub from: usize,
     pub bytes: Vec<u64>,
     pub largest: u64,
 }
 
+impl Held {
+    /// The bytes held in each round of the day.
+    pub fn by_round(&self, rounds: usize) -> Vec<u64> {
+        let mut whole = vec![0; rounds];
+        whole[self.from..self.from + self.bytes.len()].copy_from_slice(&self.bytes);
+        whole
+    }
+}
+
 /// What the streams hold, where each has a schedule and memory takes them all. Streams of the same film, pre-fetch and reserve
 /// have their profile worked out once.
-fn held_by(streams: &[Stream], memory: u64) -> Option<Held> {
+fn held_by(streams: &[Stream], memory: u64, wanted: Wanted) -> Option<(Held, Profiles)> {
     let from = streams.iter().map(|stream| stream.start).min().unwrap_or(0);
     let to = streams.iter().map(Stream::end).max().unwrap_or(0);
     let mut bytes = vec![0; to - from];
+    let mut profiles = Profiles {
+        words: Vec::new(),
+        from: [0; MAX_BOOKINGS],
+    };
+    if wanted == Wanted::Profiles {
+        let words = streams.iter().map(Stream::open_rounds).sum();
+        profiles.words.reserve_exact(words);
+    }
     let mut order = [0; MAX_BOOKINGS];
     let order = &mut order[..streams.len()];
     for (place, stream) in streams.iter().enumerate() {
@@ -270,29 +315,34 @@ fn held_by(streams: &[Stream], memory: u64) -> Option<Held> {
     order.sort_unstable();
     let mut profile = [0; MAX_OPEN];
     for alike in order.chunk_by(|one, other| one >> 8 == other >> 8) {
-        let of = |packed: &u64| &streams[(packed & 0xff) as usize];
-        let stream = of(&alike[0]);
-        let rounds = stream.open_rounds();
+        let place_of = |packed: &u64| (packed & 0xff) as usize;
+        let stream = &streams[place_of(&alike[0])];
         let part = |stream: &Stream| stream.start - from..stream.end() - from;
-        if let [_] = alike {
+        if wanted == Wanted::Answer && alike.len() == 1 {
             if !add_held(stream.sizes, stream.reserve, &mut bytes[part(stream)]) {
                 return None;
             }
             continue;
         }
-        if !write_held(stream.sizes, stream.reserve, &mut profile[..rounds]) {
+        let profile = &mut profile[..stream.open_rounds()];
+        if !write_held(stream.sizes, stream.reserve, profile) {
             return None;
         }
-        for stream in alike.iter().map(of) {
-            add_each(&mut bytes[part(stream)], &profile);
+        for place in alike.iter().map(place_of) {
+            add_each(&mut bytes[part(&streams[place])], profile);
+            profiles.from[place] = profiles.words.len();
+        }
+        if wanted == Wanted::Profiles {
+            profiles.words.extend_from_slice(profile);
         }
     }
     let largest = bytes.iter().copied().max().unwrap_or(0);
-    (largest <= memory).then_some(Held {
+    let held = Held {
         from,
         bytes,
         largest,
-    })
+    };
+    (largest <= memory).then_some((held, profiles))
 }
 
 pub fn add_each(places: &mut [u64], values: &[u64]) {
