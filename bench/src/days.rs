@@ -69,6 +69,21 @@ impl Size {
 /// between the film's least and a tenth more. The limits are a quarter above what the bookings need, and the round is the middle
 /// of the day. The request asks for a hundred starts.
 pub fn day(size: Size) -> Fixture {
+    day_of(size, |random, slot, open| random.below(slot - open + 1))
+}
+
+/// A day of that size in which the bookings of all cabs start at once, a group after the other. The request asks for a hundred starts
+/// from the last group's on.
+pub fn day_at_once(size: Size) -> Fixture {
+    let mut fixture = day_of(size, |_, _, _| 0);
+    let first = (size.turns() - 1) * (size.rounds / size.turns());
+    fixture.request.first = first;
+    fixture.request.last = first + 99;
+    fixture
+}
+
+/// A day whose bookings start in their part of the day as `start` says, given the part's rounds and those that a booking is open.
+fn day_of(size: Size, start: fn(&mut Random, u64, u64) -> u64) -> Fixture {
     let films = films(64, size.film as usize);
     let file = encode(&films);
     let mut random = Random::new(size.rounds * 1_000_003 + size.bookings * 4_099 + size.film);
@@ -85,7 +100,7 @@ pub fn day(size: Size) -> Fixture {
         *record = Booking {
             name: 1 + random.below(1 << 20) as u32 * 256 + place as u32,
             film: 1 + film as u16,
-            start: (turn * slot + random.below(slot - open + 1)) as u32,
+            start: (turn * slot + start(&mut random, slot, open)) as u32,
             prefetch: PREFETCH as u16,
             reserve: (least + random.below(least / 10)).min(MAX_RESERVE) as u32,
             cabs: 1 << (place as u64 % CABS),

@@ -3,7 +3,8 @@
 //!     bench [--write DOCUMENT PICTURES] [--quick] [--hall PROGRAM] [PART ..]
 //!     bench instructions VERSION CASE
 //!
-//! Parts: files, days, sheets, starts, refusals, searches, replays, console, growth, stack, instructions; all where none is named.
+//! Parts: files, days, sheets, starts, refusals, searches, replays, console, ceilings, growth, stack, instructions; all where none is
+//! named. Ends with 1 where a ceiling is not kept.
 
 use bench::days::Size;
 use bench::document::rewrite;
@@ -11,13 +12,14 @@ use bench::measure::Effort;
 use bench::speed::cases::{
     file_cases, refusal_cases, replay_case, search_cases, sheet_cases, start_cases,
 };
-use bench::speed::console::console;
+use bench::speed::ceilings::ceilings;
+use bench::speed::console::{console, slowest_line};
 use bench::speed::growth::growth;
 use bench::speed::instructions::{instructions, run_case};
 use bench::speed::stacks::stacks;
-use bench::speed::tables::{cases_table, grid_tables, Ratios};
+use bench::speed::tables::{cases_table, grid_tables, Measured};
 use std::path::{Path, PathBuf};
-use std::process::Command;
+use std::process::{Command, ExitCode};
 use std::time::{Duration, Instant};
 use std::{env, fs};
 
@@ -81,11 +83,12 @@ fn machine() -> String {
     )
 }
 
-fn main() {
+fn main() -> ExitCode {
     let arguments: Vec<String> = env::args().skip(1).collect();
     if let [word, version, case] = arguments.as_slice() {
         if word == "instructions" {
-            return run_case(version, case);
+            run_case(version, case);
+            return ExitCode::SUCCESS;
         }
     }
     let options = options(arguments);
@@ -102,29 +105,29 @@ fn main() {
     let wanted =
         |part: &str| options.parts.is_empty() || options.parts.iter().any(|other| other == part);
     let mut texts = vec![("machine", machine())];
-    let mut ratios = Ratios::default();
+    let mut measured = Measured::default();
     if wanted("files") {
-        texts.push(("files", cases_table(&file_cases(), effort, &mut ratios)));
+        texts.push(("files", cases_table(&file_cases(), effort, &mut measured)));
     }
     if wanted("days") {
-        texts.extend(grid_tables(effort, &mut ratios));
+        texts.extend(grid_tables(effort, &mut measured));
     }
     if wanted("sheets") {
-        texts.push(("sheets", cases_table(&sheet_cases(), effort, &mut ratios)));
+        texts.push(("sheets", cases_table(&sheet_cases(), effort, &mut measured)));
     }
     if wanted("starts") {
-        texts.push(("starts", cases_table(&start_cases(), effort, &mut ratios)));
+        texts.push(("starts", cases_table(&start_cases(), effort, &mut measured)));
     }
     if wanted("refusals") {
         texts.push((
             "refusals",
-            cases_table(&refusal_cases(), effort, &mut ratios),
+            cases_table(&refusal_cases(), effort, &mut measured),
         ));
     }
     if wanted("searches") {
         texts.push((
             "searches",
-            cases_table(&search_cases(), effort, &mut ratios),
+            cases_table(&search_cases(), effort, &mut measured),
         ));
     }
     if wanted("replays") {
@@ -139,21 +142,28 @@ fn main() {
                 })
             })
             .collect();
-        texts.push(("replays", cases_table(&cases, effort, &mut ratios)));
+        texts.push(("replays", cases_table(&cases, effort, &mut measured)));
     }
-    if !ratios.0.is_empty() {
-        texts.push(("ratios", ratios.summary()));
-    }
+    texts.extend(measured.summary().map(|text| ("ratios", text)));
+    let hall = || fs::canonicalize(&options.hall).expect("`rt check hall` builds the program");
+    let folder = env::temp_dir().join(format!("bench-console-{}", std::process::id()));
+    let mut line = None;
     if wanted("console") {
         let here = env::current_exe().expect("a path");
         let fast_hall = here.with_file_name("fast_hall");
         let obvious_hall = here.with_file_name("obvious_hall");
-        let hall = fs::canonicalize(&options.hall).expect("`rt check hall` builds the program");
-        let folder = env::temp_dir().join(format!("bench-console-{}", std::process::id()));
-        let text = console(&hall, &fast_hall, &obvious_hall, &folder);
+        let (text, slowest) = console(&hall(), &fast_hall, &obvious_hall, &folder);
         texts.push(("console", text));
-        let _ = fs::remove_dir_all(&folder);
+        line = Some(slowest);
     }
+    let mut kept = true;
+    if wanted("ceilings") {
+        let line = line.unwrap_or_else(|| slowest_line(&hall(), &folder));
+        let (text, all_kept) = ceilings(effort, &measured, line);
+        texts.push(("ceilings", text));
+        kept = all_kept;
+    }
+    let _ = fs::remove_dir_all(&folder);
     let mut picture = None;
     if wanted("growth") {
         let (text, drawn) = growth(effort);
@@ -177,4 +187,9 @@ fn main() {
         rewrite(document, &texts);
     }
     eprintln!("bench: {:.0} s", begin.elapsed().as_secs_f64());
+    if !kept {
+        eprintln!("bench: a ceiling is not kept");
+        return ExitCode::FAILURE;
+    }
+    ExitCode::SUCCESS
 }

@@ -84,13 +84,40 @@ fn run(program: &Path, folder: &Path, input: &Path, output: &Path) {
     assert!(status.success());
 }
 
-/// The table, with the program `hall` and the consoles over the fast and over the obvious version at these paths.
-pub fn console(hall: &Path, fast_hall: &Path, obvious_hall: &Path, folder: &Path) -> String {
+/// Lays the films and makes the inputs.
+fn laid_inputs(folder: &Path) -> Vec<Input> {
     fs::create_dir_all(folder).expect("the folder is made");
     let file = encode(&films(FILMS, FILM));
     fs::write(folder.join("films.bin"), &file).expect("the films are written");
+    inputs(&file)
+}
+
+const EFFORT: Effort = Effort {
+    runs: 5,
+    time: Duration::from_secs(2),
+    run: Duration::from_micros(1),
+};
+
+/// Seconds that the program `hall` at this path takes for a line, in the input where it takes most.
+pub fn slowest_line(hall: &Path, folder: &Path) -> f64 {
+    let mut slowest: f64 = 0.0;
+    for input in laid_inputs(folder) {
+        eprintln!("bench: a line of hall, {}", input.name);
+        let (path, output) = (folder.join("input"), folder.join("library"));
+        fs::write(&path, &input.text).expect("the input is written");
+        let mut library = || run(hall, folder, &path, &output);
+        let times = measure(children_time, EFFORT, &mut [&mut library]);
+        slowest = slowest.max(times[0].median() / input.text.lines().count() as f64);
+    }
+    slowest
+}
+
+/// The table, with the program `hall` and the consoles over the fast and over the obvious version at these paths, and the seconds of a
+/// line of `hall` in the input where it takes most.
+pub fn console(hall: &Path, fast_hall: &Path, obvious_hall: &Path, folder: &Path) -> (String, f64) {
     let mut rows = Vec::new();
-    for input in inputs(&file) {
+    let mut slowest: f64 = 0.0;
+    for input in laid_inputs(folder) {
         eprintln!("bench: console, {}", input.name);
         let path = folder.join("input");
         fs::write(&path, &input.text).expect("the input is written");
@@ -106,14 +133,10 @@ pub fn console(hall: &Path, fast_hall: &Path, obvious_hall: &Path, folder: &Path
         let same = one == other && one == third;
         assert!(same, "{}: the outputs differ", input.name);
         let lines = input.text.lines().count() as f64;
-        let effort = Effort {
-            runs: 5,
-            time: Duration::from_secs(2),
-            run: Duration::from_micros(1),
-        };
         let mut library = || run(hall, folder, &path, &outputs[0]);
         let mut fast = || run(fast_hall, folder, &path, &outputs[1]);
-        let times = measure(children_time, effort, &mut [&mut library, &mut fast]);
+        let times = measure(children_time, EFFORT, &mut [&mut library, &mut fast]);
+        slowest = slowest.max(times[0].median() / lines);
         rows.push(vec![
             input.name.to_string(),
             grouped(lines as u64),
@@ -125,17 +148,15 @@ pub fn console(hall: &Path, fast_hall: &Path, obvious_hall: &Path, folder: &Path
             format!("{:.0}", slow / times[0].median()),
         ]);
     }
-    table(
-        &[
-            "input",
-            "lines",
-            "hall, lines/s",
-            "±",
-            "fast console, lines/s",
-            "time, hall / fast",
-            "obvious console, lines/s",
-            "time, obvious / hall",
-        ],
-        &rows,
-    )
+    let heads = [
+        "input",
+        "lines",
+        "hall, lines/s",
+        "±",
+        "fast console, lines/s",
+        "time, hall / fast",
+        "obvious console, lines/s",
+        "time, obvious / hall",
+    ];
+    (table(&heads, &rows), slowest)
 }

@@ -274,6 +274,20 @@ pub fn contest(call: Call, state: &State, effort: Effort, try_obvious: bool) -> 
     }
 }
 
+/// The library's time alone.
+pub fn library_time(call: Call, state: &State, effort: Effort) -> f64 {
+    let mut lent = Lent::of(state);
+    let begin = thread_time();
+    let answer = carry_out(&Library, call, state, &mut lent);
+    let once = thread_time() - begin;
+    if once > LONG {
+        return once;
+    }
+    let changes = changes_lists(call, answer[0]);
+    let mut library = Repeated::new(&Library, call, changes, state);
+    measure(thread_time, effort, &mut [&mut library])[0].median()
+}
+
 /// The obvious version's median over a few runs, which must agree too.
 fn obvious(call: Call, state: &State, answer: [u64; 4], expected: &Lent) -> Slow {
     let version = Obvious::default();

@@ -6,38 +6,45 @@ use crate::days::{day, Size};
 use crate::document::{grouped, table};
 use crate::measure::{seconds, Effort};
 
-/// Ratios that a run found, to be summed up.
+/// What a run measured: each case's name with the library's time and its ratio to the fast version's.
 #[derive(Default)]
-pub struct Ratios(pub Vec<(String, f64)>);
+pub struct Measured(Vec<(String, f64, f64)>);
 
-impl Ratios {
+impl Measured {
     fn put(&mut self, name: &str, contest: &Contest) {
-        self.0.push((name.to_string(), contest.ratio()));
+        let time = contest.library.median();
+        self.0.push((name.to_string(), time, contest.ratio()));
     }
 
-    /// How many are at most 1.0 and at most 1.2, and the largest.
-    pub fn summary(&self) -> String {
-        let at_most = |bound: f64| self.0.iter().filter(|(_, ratio)| *ratio <= bound).count();
-        let largest = self.0.iter().max_by(|one, other| one.1.total_cmp(&other.1));
-        let largest = largest.map_or(String::new(), |(name, ratio)| {
-            format!("; the largest is {ratio:.2} ({name})")
-        });
-        format!(
-            "Of {} cases the library takes at most the fast version's time in {}, at most 1.2 times it in {}{largest}.\n",
+    /// The library's time in a case.
+    pub fn time(&self, name: &str) -> Option<f64> {
+        let found = self.0.iter().find(|(other, _, _)| other == name);
+        found.map(|&(_, time, _)| time)
+    }
+
+    /// How many ratios are at most 1.0 and at most 1.2, and the largest; nothing where no case was measured.
+    pub fn summary(&self) -> Option<String> {
+        let at_most = |bound: f64| self.0.iter().filter(|case| case.2 <= bound).count();
+        let (name, _, ratio) = self
+            .0
+            .iter()
+            .max_by(|one, other| one.2.total_cmp(&other.2))?;
+        Some(format!(
+            "Of {} cases the library takes at most the fast version's time in {}, at most 1.2 times it in {}; the largest is {ratio:.2} ({name}).\n",
             self.0.len(),
             at_most(1.0),
             at_most(1.2),
-        )
+        ))
     }
 }
 
 /// A row for each case.
-pub fn cases_table(cases: &[Case], effort: Effort, ratios: &mut Ratios) -> String {
+pub fn cases_table(cases: &[Case], effort: Effort, measured: &mut Measured) -> String {
     let mut rows = Vec::new();
     for case in cases {
         eprintln!("bench: {}", case.name);
         let contest = contest(case.call, &case.state, effort, true);
-        ratios.put(&case.name, &contest);
+        measured.put(&case.name, &contest);
         let library = contest.library.median();
         let (slow, ahead) = match contest.slow {
             Slow::NotTried => (String::new(), String::new()),
@@ -84,7 +91,7 @@ const FILMS: [u64; 3] = [64, 512, 4_096];
 const BOOKINGS: [u64; 4] = [1, 16, 64, 256];
 
 /// Each call's times over the sizes of a day, and how far the obvious version is behind.
-pub fn grid_tables(effort: Effort, ratios: &mut Ratios) -> Vec<(&'static str, String)> {
+pub fn grid_tables(effort: Effort, measured: &mut Measured) -> Vec<(&'static str, String)> {
     let calls = [
         ("book", Call::Book),
         ("drop", Call::Drop),
@@ -116,7 +123,7 @@ pub fn grid_tables(effort: Effort, ratios: &mut Ratios) -> Vec<(&'static str, St
                         state.fixture.lay_sheet();
                     }
                     let contest = contest(call, &state, effort, true);
-                    ratios.put(&format!("{call_name}, {name}, {bookings}"), &contest);
+                    measured.put(&format!("{call_name}, {name}, {bookings}"), &contest);
                     spreads[place].push(contest.library.spread());
                     let mark = if contest.refusal == 0 { "" } else { " *" };
                     let (time, ratio) = (contest.library.median(), contest.ratio());
