@@ -4,7 +4,7 @@
 //!     bench instructions VERSION CASE
 //!
 //! Parts: files, days, sheets, starts, refusals, searches, replays, console, ceilings, growth, stack, instructions; all where none is
-//! named. Ends with 1 where a ceiling is not kept.
+//! named. Ends with 1 where a ceiling, of time or of stack, is not kept.
 
 use bench::days::Size;
 use bench::document::rewrite;
@@ -171,7 +171,9 @@ fn main() -> ExitCode {
         picture = Some(drawn);
     }
     if wanted("stack") {
-        texts.push(("stack", stacks()));
+        let (text, all_kept) = stacks();
+        texts.push(("stack", text));
+        kept &= all_kept;
     }
     if wanted("instructions") {
         texts.push(("instructions", instructions()));
