@@ -43,7 +43,7 @@ rowOf f from n x = headOf x (heldsOf f from n x)
 
 -- words of all rows
 abbrev pub blockWords : ℕ
-blockWords = 5000
+blockWords = 3000
 
 -- the rows of the bookings ys stand first
 pub record RowsOf (f : List ℕ) (ys : List Stream) (from n count : ℕ) (words : List ℕ) : Type 0 where

@@ -16,7 +16,7 @@ ghost use Rattle.rounds.specs.Rows.{openBetween, active, headWords, head
 pub const HEAD_WORDS: usize = 5;
 
 // words of all rows
-pub const BLOCK_WORDS: usize = 5000;
+pub const BLOCK_WORDS: usize = 3000;
 
 // rounds of a block, at most
 pub const BLOCK_ROUNDS: usize = 1000;

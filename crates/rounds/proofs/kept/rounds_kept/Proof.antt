@@ -23,7 +23,7 @@ and-none true b e = e
 and-none false b e = refl
 
 abbrev Inv-loop : tie.InvT-loop
-Inv-loop file xs count day-rounds disk memory marks lost words₀ t₀ words t = (t ≤ day-rounds) × (length words ≡ 5000) × (inRounds 0 day-rounds (keptIn file lossAt disk memory (take count xs)) ≡ inRounds t (day-rounds - t) (keptIn file lossAt disk memory (take count xs)))
+Inv-loop file xs count day-rounds disk memory marks lost words₀ t₀ words t = (t ≤ day-rounds) × (length words ≡ 3000) × (inRounds 0 day-rounds (keptIn file lossAt disk memory (take count xs)) ≡ inRounds t (day-rounds - t) (keptIn file lossAt disk memory (take count xs)))
 
 abbrev μ-loop : tie.MeasureT-loop
 μ-loop file xs count day-rounds disk memory marks lost words₀ t₀ words t = day-rounds - t
@@ -58,7 +58,7 @@ loop-holds : tie.Need-loop-holds Inv-loop μ-loop
 loop-holds c =
     let T = c .before .before .before .before .before .before .before .before .args .day-rounds in
     let e : T - 0 ≡ T = omega arith in
-    (omega arith, length-replicate {A = ℕ} 5000 0, rw e)
+    (omega arith, length-replicate {A = ℕ} 3000 0, rw e)
 
 slice-aggregate-look : tie.Need-slice-aggregate-look Inv-loop μ-loop
 slice-aggregate-look c = search needs

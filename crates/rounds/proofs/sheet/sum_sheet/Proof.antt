@@ -15,7 +15,7 @@ use Rattle.rounds.proofs.sheet.sum_sheet.Tie as tie
 
 abbrev Inv-loop : tie.InvT-loop
 Inv-loop file xs count from to opens₀ reserves₀ helds₀ marks words₀ t₀ opens reserves helds words t =
-    (from ≤ t) × (t ≤ to) × (length words ≡ 5000) × (length opens ≡ length opens₀) × (length reserves ≡ length reserves₀)
+    (from ≤ t) × (t ≤ to) × (length words ≡ 3000) × (length opens ≡ length opens₀) × (length reserves ≡ length reserves₀)
     × (length helds ≡ length helds₀) × Summed (λ k. sumsIn file k (take count xs)) from t opens₀ reserves₀ helds₀ opens reserves helds
 
 abbrev μ-loop : tie.MeasureT-loop
@@ -33,7 +33,7 @@ loop-holds c =
     let a = start .args in (
       omega arith,
       start .pre .order,
-      length-replicate {A = ℕ} 5000 0,
+      length-replicate {A = ℕ} 3000 0,
       refl,
       refl,
       refl,
