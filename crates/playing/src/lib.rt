@@ -71,7 +71,7 @@ pub fn play_block(
     room: u64,
 ) -> Played
     requires { ⌜ Rowed (now file) day rows xs (now words) block ⌝ }
-    ensures { λ r. ⌜ PlaysAny (now (file .entry)) day rows room r ⌝ }
+    ensures { λ r. ⌜ PlaysAny (now (file .entry)) day rows room r × (r .day .count ≡ day .count) ⌝ }
 {
     if day.rounds <= day.now {
         return refused(DAY_OVER, day);

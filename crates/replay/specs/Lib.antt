@@ -15,4 +15,5 @@ pub mod Pictured
 pub mod Writing
 pub mod StepLaws
 pub mod LoopLaws
+pub mod Stretch
 pub mod OpeningLaws

@@ -1,5 +1,5 @@
 -- `playing::play_block` meets its contract: the lines and the cabs are read off the block's rows, and 23 and 11 decide. Assumes nothing.
-use mathlib.Core.Path.{sym, subst, ap, _∙_}
+use mathlib.Core.Path.{refl, sym, subst, ap, _∙_}
 use Prim.Native.Nat.{_≤_}
 use native.Mathlib.Omega.{arith}
 use lib.ListN.{length}
@@ -18,13 +18,16 @@ refused-requires : tie.Need-refused-requires
 refused-requires c κs = search needs
 
 returns : tie.Need-returns
-returns c places asked =
+returns c =
     let start = c .before .before .before .before .before in
     let a = start .args in
-    let w = start .pre in
-    subst (λ (r : Played). Plays (a .file .now) (a .day) (a .rows) places (a .room) r) (sym (c .refused .ensures))
-    (plays-refused (a .file .now) (a .day) (a .rows) places (a .room) dayOver
-    (own-over (a .file .now) (a .day) (a .rows) places (a .room) asked (c .before .if1 .taken)) (λ z. omega (arith, z)))
+    let w = start .pre in (
+      λ places asked.
+          subst (λ (r : Played). Plays (a .file .now) (a .day) (a .rows) places (a .room) r) (sym (c .refused .ensures))
+          (plays-refused (a .file .now) (a .day) (a .rows) places (a .room) dayOver
+          (own-over (a .file .now) (a .day) (a .rows) places (a .room) asked (c .before .if1 .taken)) (λ z. omega (arith, z))),
+      ap (λ (r : Played). r .day .count) (c .refused .ensures),
+    )
 
 lines-at-requires : tie.Need-lines-at-requires
 lines-at-requires c κs = search needs
@@ -33,16 +36,19 @@ refused-requires-2 : tie.Need-refused-requires-2
 refused-requires-2 c κs = search needs
 
 returns-2 : tie.Need-returns-2
-returns-2 c places asked =
+returns-2 c =
     let start = c .before .before .before .before .before .before .before .before in
     let a = start .args in
     let w = start .pre in
     let made = c .before .before .before .lines-at in
-    let today = c .before .before .before .before .if1 .left in
-    subst (λ (r : Played). Plays (a .file .now) (a .day) (a .rows) places (a .room) r) (sym (c .refused2 .ensures))
-    (plays-refused (a .file .now) (a .day) (a .rows) places (a .room) noRoom
-    (own-full (a .file .now) (a .day) (a .rows) places (a .room) asked today (made .result .«open») (made .ensures .0) (c .before .if2 .taken))
-    (λ z. omega (arith, z)))
+    let today = c .before .before .before .before .if1 .left in (
+      λ places asked.
+          subst (λ (r : Played). Plays (a .file .now) (a .day) (a .rows) places (a .room) r) (sym (c .refused2 .ensures))
+          (plays-refused (a .file .now) (a .day) (a .rows) places (a .room) noRoom
+          (own-full (a .file .now) (a .day) (a .rows) places (a .room) asked today (made .result .«open») (made .ensures .0) (c .before .if2 .taken))
+          (λ z. omega (arith, z))),
+      ap (λ (r : Played). r .day .count) (c .refused2 .ensures),
+    )
 
 sub-round-sums : tie.Need-sub-round-sums
 sub-round-sums c =
@@ -70,7 +76,7 @@ add-t16 : tie.Need-add-t16
 add-t16 c = search needs
 
 returns-3 : tie.Need-returns-3
-returns-3 c places asked =
+returns-3 c =
     let start = c .before .before .before .before .before .before .before .before .before .before .before .before in
     let a = start .args in
     let w = start .pre in
@@ -81,10 +87,13 @@ returns-3 c places asked =
     let made = c .before .before .before .before .before .before .before .lines-at in
     let today = c .before .before .before .before .before .before .before .before .if1 .left in
     let cabs = counted .ensures
-    ∙ ap ones (cabs-joined (a .file .now) (a .day) (a .rows) (a .xs) (a .words .now) (a .block) w today there (summed .result) (summed .ensures .0)) in
-    plays-accepted (a .file .now) (a .day) (a .rows) places (a .room) (made .result .«open») (counted .result) (made .result .lines)
-    (own-passed (a .file .now) (a .day) (a .rows) places (a .room) asked today (made .result .«open») (made .ensures .0) full)
-    (made .ensures .0) (made .ensures .1) cabs
+    ∙ ap ones (cabs-joined (a .file .now) (a .day) (a .rows) (a .xs) (a .words .now) (a .block) w today there (summed .result) (summed .ensures .0)) in (
+      λ places asked.
+          plays-accepted (a .file .now) (a .day) (a .rows) places (a .room) (made .result .«open») (counted .result) (made .result .lines)
+          (own-passed (a .file .now) (a .day) (a .rows) places (a .room) asked today (made .result .«open») (made .ensures .0) full)
+          (made .ensures .0) (made .ensures .1) cabs,
+      refl,
+    )
 
 pub play-block-spec : {M : Type 1} → statement M
 play-block-spec =

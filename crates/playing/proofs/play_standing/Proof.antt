@@ -74,7 +74,7 @@ play-block-requires c κs =
 returns : tie.Need-returns
 returns c =
     let start = c .before .before .before .before .before .before .before .before .before .before .before in
-    c .play-block .ensures (start .args .places) (start .pre .1)
+    c .play-block .ensures .0 (start .args .places) (start .pre .1)
 
 pub play-standing-spec : {M : Type 1} → statement M
 play-standing-spec =
