@@ -3,9 +3,9 @@ ghost use Prim.Native.Nat.{_<_, _≤_};
 ghost use lib.ListN.{length};
 use films::catalogue::verdict;
 use io::read_full;
+use lent::film_reader;
 use libc::STDIN_FILENO;
 use limits::bounds::MAX_FILMS;
-use reader::cursor::next;
 use reader::cursor::start;
 use reader::summary::summary;
 use reader::types::Entry;
@@ -51,9 +51,9 @@ fn add_figures(line: Line, found: Summary) -> Line {
     }
 }
 
-// One step of the reader, with what it gives on the line: a film and its figures, or a 0 unprinted for "no more".
+// One step of the reader that holds the file, with what it gives on the line: a film and its figures, or a 0 unprinted for "no more".
 fn step(file: &[u8], reading: Reading) -> Reading {
-    let step = next(file, reading.reader);
+    let step = film_reader::step(file, reading.reader);
     let reader = step.reader;
     let entry = step.entry;
     let line = reading.line;

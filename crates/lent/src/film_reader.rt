@@ -1,8 +1,10 @@
 // The film reader as a struct that holds the file's bytes and a position.
 ghost use mathlib.Core.Path.{_≡_};
+ghost use Rattle.reader.specs.Reader.{stepOf};
 ghost use Rattle.lent.specs.FilmReader.{started, entryHere, moved};
 use reader::types::Entry;
 use reader::types::Reader;
+use reader::types::Step;
 
 // The file's bytes, its refusal or 0, and how many entries were given.
 pub struct FilmReader<'a> {
@@ -36,4 +38,21 @@ pub fn next<'s, 'a>(r: &'s mut FilmReader<'a>) -> Entry
     r.refusal = moved.refusal;
     r.position = moved.position;
     step.entry
+}
+
+// One step of the reader at a cursor's place. What it is handed and gives is plain, so whoever calls it needs no proof by hand.
+pub fn step(file: &[u8], cursor: Reader) -> Step
+    ensures { λ r. ⌜ r ≡ stepOf (now (file .entry)) cursor ⌝ }
+{
+    let mut held = FilmReader {
+        file,
+        refusal: cursor.refusal,
+        position: cursor.position,
+    };
+    let entry = next(&mut held);
+    let reader = Reader {
+        refusal: held.refusal,
+        position: held.position,
+    };
+    Step { entry, reader }
 }
