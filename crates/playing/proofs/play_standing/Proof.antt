@@ -54,7 +54,7 @@ block-at-requires c κs =
         marked = c .before .before .before .mark-streams .ensures;
       },
       ready .short,
-      omega (arith, length-replicate {A = ℕ} 16000 0),
+      omega (arith, length-replicate {A = ℕ} 3000 0),
       λ u. absurd (omega (arith, u)),
     )
 

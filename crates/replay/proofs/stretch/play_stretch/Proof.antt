@@ -30,7 +30,7 @@ Inv-loop file xs rows journal first log₀ from count marks words₀ block₀ to
     (today .count ≡ count)
     × Onward file journal rows log₀ today₀ from first log today at i
     × (i < stop → PlayNext journal i (length log - at))
-    × (length words ≡ 16000)
+    × (length words ≡ 3000)
     × RowsStand file (take count xs) words block
     × (length log ≡ length log₀)
 
@@ -62,7 +62,7 @@ after-play-requires c κs = search needs
 loop-holds : tie.Need-loop-holds Inv-loop μ-loop
 loop-holds c =
     let a = c .before .before .before .before .before .before .before .args in
-    (refl, onward-none (a .file .now) (a .journal .now) (a .rows) (a .log .now) (a .day) (a .from) (a .first), c .after-play .ensures .0, length-replicate {A = ℕ} 16000 0, λ u. absurd (omega (arith, u)), refl)
+    (refl, onward-none (a .file .now) (a .journal .now) (a .rows) (a .log .now) (a .day) (a .from) (a .first), c .after-play .ensures .0, length-replicate {A = ℕ} 3000 0, λ u. absurd (omega (arith, u)), refl)
 
 slice-aggregate-block-at : tie.Need-slice-aggregate-block-at Inv-loop μ-loop
 slice-aggregate-block-at c = search needs
