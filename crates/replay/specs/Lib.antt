@@ -15,5 +15,4 @@ pub mod Pictured
 pub mod Writing
 pub mod StepLaws
 pub mod LoopLaws
-pub mod Stretch
 pub mod OpeningLaws

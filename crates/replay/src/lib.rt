@@ -2,7 +2,6 @@
 pub mod journal;
 pub mod log;
 pub mod step;
-pub mod stretch;
 
 use films::catalogue::catalogue;
 use films::types::Catalogue;
@@ -14,7 +13,6 @@ use model::Booking;
 use model::Day;
 use opening::open;
 use step::step;
-use stretch::play_rounds;
 ghost use mathlib.Core.Path.{_≡_};
 ghost use mathlib.Core.List.{List};
 ghost use lib.ListN.{length};
@@ -53,8 +51,8 @@ fn number_of(answer: Answer) -> u32
     }
 }
 
-// Carries the journal's entries out in order, from an opened day on, until one's words do not fit in what is left of the log: one, and
-// the rounds played after it, by the same rows. The file's catalogue is c.
+// Carries the journal's entries out in order, from an opened day on, until one's words do not fit in what is left of the log. The
+// file's catalogue is c.
 fn run(
     file: &[u8],
     c: Catalogue,
@@ -101,12 +99,10 @@ fn run(
         }
         let after = stepped.day;
         let left = stepped.rows;
-        let played = play_rounds(file, c, after, left, journal, i + 1, log, stepped.next);
-        let later = played.day;
-        today = later;
+        today = after;
         list = left;
-        at = played.at;
-        i = played.entry;
+        at = stepped.next;
+        i += 1;
     }
     Replayed {
         refusal: 0,

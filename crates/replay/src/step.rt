@@ -13,7 +13,6 @@ use model::Answer;
 use model::Booking;
 use model::Day;
 use model::Request;
-use playing::Played;
 use playing::play_standing;
 ghost use mathlib.Core.Path.{_≡_};
 ghost use mathlib.Core.List.{List};
@@ -26,7 +25,7 @@ ghost use Rattle.model.specs.Claim.{InBetween};
 ghost use Rattle.questions.specs.Given.{settingAt};
 ghost use Rattle.questions.specs.Numbers.{standingAsks};
 ghost use Rattle.playing.specs.Contract.{linesIn};
-ghost use Rattle.replay.specs.DeskRun.{refusalOf, Refuses, Steps, PlayLogged};
+ghost use Rattle.replay.specs.DeskRun.{refusalOf, Refuses, Steps};
 ghost use Rattle.replay.specs.declared.journal.Entry.the-variants.{Book, Drop, Play};
 
 // What an entry leaves: whether it was done, the place in the log after it, the day and the records' places.
@@ -110,18 +109,22 @@ fn line_count(answer: Answer) -> u64
     }
 }
 
-// Logs a round that was played, if its words fit; else nothing is done. Its call changed nothing lent, so that it was made before its
-// words were known to fit. The log has three places left.
-pub fn write_played(
+// PLAY, where the log has three places left and the questions before 23 have passed. Its call changes nothing lent, so that it is
+// made before its words are known to fit.
+fn step_play(
+    file: &[u8],
+    c: Catalogue,
     day: Day,
     rows: [Booking; MAX_BOOKINGS],
-    played: Played,
+    places: u64,
+    room: u64,
     log: &mut [u64],
     at: usize,
 ) -> Stepped
-    requires { ⌜ (at + 3 ≤ length (now log)) × (linesIn (played .answer) ≤ length (played .lines)) ⌝ }
-    ensures { λ r. ⌜ PlayLogged day rows played (now (log .entry)) at r (now (log .exit)) ⌝ }
+    requires { ⌜ (at + 3 ≤ length (now log)) × (c ≡ catalogueOf (now file)) × (refusal (standingAsks (now file) day rows places (day .rounds) (day .rounds) (day .rounds)) ≡ 0) ⌝ }
+    ensures { λ r. ⌜ ((opens reserves helds : List ℕ) → Steps (settingAt (now (file .entry)) day) (stateOf day rows places opens reserves helds) (Play room) (now (log .entry)) at r (now (log .exit)) opens reserves helds) ⌝ }
 {
+    let played = play_standing(file, c, day, rows, places, room);
     let answer = played.answer;
     let count = line_count(answer);
     let fitting = ((log.len() - at - ANSWER_WORDS) / LINE_WORDS) as u64;
@@ -143,24 +146,6 @@ pub fn write_played(
         day: after,
         rows,
     }
-}
-
-// PLAY, where the log has three places left and the questions before 23 have passed.
-fn step_play(
-    file: &[u8],
-    c: Catalogue,
-    day: Day,
-    rows: [Booking; MAX_BOOKINGS],
-    places: u64,
-    room: u64,
-    log: &mut [u64],
-    at: usize,
-) -> Stepped
-    requires { ⌜ (at + 3 ≤ length (now log)) × (c ≡ catalogueOf (now file)) × (refusal (standingAsks (now file) day rows places (day .rounds) (day .rounds) (day .rounds)) ≡ 0) ⌝ }
-    ensures { λ r. ⌜ ((opens reserves helds : List ℕ) → Steps (settingAt (now (file .entry)) day) (stateOf day rows places opens reserves helds) (Play room) (now (log .entry)) at r (now (log .exit)) opens reserves helds) ⌝ }
-{
-    let played = play_standing(file, c, day, rows, places, room);
-    write_played(day, rows, played, log, at)
 }
 
 // An entry that is refused before its call: its number, and nothing but the log changes.

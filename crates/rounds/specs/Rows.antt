@@ -73,14 +73,3 @@ pub record Looked (f : List ℕ) (xs : List Stream) (from to : ℕ) (words : Lis
   pub some : 0 < b .rounds
   pub within : from + b .rounds ≤ to
   pub block : BlockOf f (active from (from + b .rounds) xs) b words
-
--- ---- a block that is kept
-
--- where it has a round, its words are the rows of the bookings xs that are open in one of its rounds
-abbrev pub RowsStand : List ℕ → List Stream → List ℕ → Block → Type 0
-RowsStand f xs words b = 0 < b .rounds → BlockOf f (active (b .from) (b .from + b .rounds) xs) b words
-
--- and where t is a round of the day, it is one of the block's
-pub record Found (f : List ℕ) (xs : List Stream) (t to : ℕ) (words : List ℕ) (b : Block) : Type 0 where
-  pub has : t < to → (b .from ≤ t) × (t < b .from + b .rounds)
-  pub rows : RowsStand f xs words b

@@ -10,7 +10,7 @@ ghost use lib.ListN.{length, take, drop};
 ghost use Rattle.limits.specs.Bounds.{maxBookings, maxDay};
 ghost use Rattle.load.specs.Basic.{Bounded, Playable, EachOf};
 ghost use Rattle.load.specs.Stream.{carryFrom};
-ghost use Rattle.rounds.specs.Rows.{openBetween, active, headWords, headOf, heldsOf, rowOf, blockWords, RowsOf, Bookings, RowsStand, Looked, Found};
+ghost use Rattle.rounds.specs.Rows.{openBetween, active, headWords, headOf, heldsOf, rowOf, blockWords, RowsOf, Bookings, Looked};
 
 // words of a row before those of the rounds: start, first showing round, end, reserve, cabs
 pub const HEAD_WORDS: usize = 5;
@@ -29,7 +29,7 @@ pub struct Block {
 }
 
 // Whether the booking is open in one of the rounds from `from` to `to` - 1.
-pub fn open_between(x: Stream, from: usize, to: usize) -> bool
+fn open_between(x: Stream, from: usize, to: usize) -> bool
     requires { ⌜ Bounded x ⌝ }
     ensures { λ r. ⌜ r ≡ openBetween from to x ⌝ }
 {
@@ -164,30 +164,4 @@ pub fn look(
         rounds,
         bookings,
     }
-}
-
-// A block that has round t of a day that ends with round `to` - 1: the one there is if it has it, else one from round t on. After the
-// day there is nothing to look for.
-pub fn block_at(
-    file: &[u8],
-    xs: [Stream; MAX_BOOKINGS],
-    count: usize,
-    marks: &[u64],
-    words: &mut [u64],
-    block: Block,
-    t: usize,
-    to: usize,
-) -> Block
-    requires { ⌜ Bookings (now file) xs count (now marks) × (to ≤ maxDay) × (blockWords ≤ length (now words)) × RowsStand (now file) (take count xs) (now words) block ⌝ }
-    ensures { λ r. ⌜ Found (now (file .entry)) (take count xs) t to (now (words .exit)) r ⌝ }
-{
-    if to <= t {
-        return block;
-    }
-    if block.from <= t {
-        if t - block.from < block.rounds {
-            return block;
-        }
-    }
-    look(file, xs, count, marks, t, to, words)
 }

@@ -1,8 +1,6 @@
 -- `run` meets its contract. The loop's invariant: the whole run is that of the entries done, whose words stand in the log, and of
--- the entries that follow, and the day is the plain day's picture. A turn does one entry and the rounds after it. The measure is the
--- entries that follow. Assumes nothing.
-use Prim.Native.Nat.{_-_, _/_}
-use lib.ListN.{length}
+-- the entries that follow, and the day is the plain day's picture. The measure is the entries that follow. Assumes nothing.
+use Prim.Native.Nat.{_-_}
 use native.Mathlib.Omega.{arith}
 use borrow.Author.Needs.{needs}
 use borrow.Author.Tests.{not-true, not-false}
@@ -66,51 +64,18 @@ returns c =
     (l .log) (l .opens) (l .reserves) (l .helds) (l .today) (l .list) (l .at) (l .i) (l .inv)
     (turn .loop-test .taken) (called .step .result) (last .0) (last .1 .1 .0) (last .1 .1 .1 .0) (last .1 .1 .1 .1 .0) (s .kept (not-true _ (c .if1 .taken)))
 
-add-play-rounds : tie.Need-add-play-rounds Inv-loop μ-loop
-add-play-rounds c =
+add-i : tie.Need-add-i Inv-loop μ-loop
+add-i c =
     let turn = c .before .before .before .before .before .before .before .before .before .before .before .before .before .before .before .before .before .before in
     let start = turn .before .before .before .before .before .before .before .before in
     record { fits = omega (arith, turn .loop-test .taken, start .good) }
 
-play-rounds-requires : tie.Need-play-rounds-requires Inv-loop μ-loop
-play-rounds-requires c κs =
-    let called = c .before .before .before .before .before .before .before .before .before .before .before .before .before in
-    let turn = called .before .before .before .before .before .before in
-    let l = turn .before .loop in
-    let start = turn .before .before .before .before .before .before .before .before in
-    let a = start .args in
-    let s = rw (called .before .before .before .before .before .entry-at .ensures) at (called .step .ensures) in
-    let last = called .step .last .1 .1 .1 .1 .1 .1 in
-    let kept = called .step .kept .1 .1 .1 .1 .1 .1 .1 .1 in
-    let stepped =
-    going-next (a .file .now) (a .day) (a .rows) (a .places) (a .journal .now) (a .log .now) (a .opens .now) (a .reserves .now) (a .helds .now) (length (a .journal .now) / 8)
-    (l .log) (l .opens) (l .reserves) (l .helds) (l .today) (l .list) (l .at) (l .i) (l .inv)
-    (turn .loop-test .taken) (called .step .result) (last .0) (last .1 .1 .0) (last .1 .1 .1 .0) (last .1 .1 .1 .1 .0) (s .took (not-false _ (c .before .before .before .if1 .left)))
-    (kept .0) (kept .1 .0) (kept .1 .1 .0) in (
-      start .pre .0,
-      record {
-        day = a .day;
-        list = a .rows;
-        places = a .places;
-        log₀ = a .log .now;
-        opens₀ = a .opens .now;
-        reserves₀ = a .reserves .now;
-        helds₀ = a .helds .now;
-        opens = last .1 .1 .0;
-        reserves = last .1 .1 .1 .0;
-        helds = last .1 .1 .1 .1 .0;
-        going = stepped;
-      },
-    )
-
 loop-less : tie.Need-loop-less Inv-loop μ-loop
-loop-less c =
-    let turn = c .before .before .before .before .before .before .before .before .before .before .before .before .before .before .before .before .before .before .before .before .before .before .before in
-    omega (arith, turn .loop-test .taken, c .before .before .before .play-rounds .ensures .order)
+loop-less c = search needs
 
 loop-again : tie.Need-loop-again Inv-loop μ-loop
 loop-again c =
-    let called = c .before .before .before .before .before .before .before .before .before .before .before .before .before .before .before .before .before in
+    let called = c .before .before .before .before .before .before .before .before .before .before .before .before in
     let turn = called .before .before .before .before .before .before in
     let l = turn .before .loop in
     let start = turn .before .before .before .before .before .before .before .before in
@@ -118,13 +83,10 @@ loop-again c =
     let s = rw (called .before .before .before .before .before .entry-at .ensures) at (called .step .ensures) in
     let last = called .step .last .1 .1 .1 .1 .1 .1 in
     let kept = called .step .kept .1 .1 .1 .1 .1 .1 .1 .1 in
-    let stepped =
-    going-next (a .file .now) (a .day) (a .rows) (a .places) (a .journal .now) (a .log .now) (a .opens .now) (a .reserves .now) (a .helds .now) (length (a .journal .now) / 8)
+    going-next (a .file .now) (a .day) (a .rows) (a .places) (a .journal .now) (a .log .now) (a .opens .now) (a .reserves .now) (a .helds .now) _
     (l .log) (l .opens) (l .reserves) (l .helds) (l .today) (l .list) (l .at) (l .i) (l .inv)
-    (turn .loop-test .taken) (called .step .result) (last .0) (last .1 .1 .0) (last .1 .1 .1 .0) (last .1 .1 .1 .1 .0) (s .took (not-false _ (c .before .before .before .before .before .before .before .if1 .left)))
-    (kept .0) (kept .1 .0) (kept .1 .1 .0) in
-    c .before .before .before .play-rounds .ensures .going (a .day) (a .rows) (a .places) (a .log .now) (a .opens .now) (a .reserves .now) (a .helds .now)
-    (last .1 .1 .0) (last .1 .1 .1 .0) (last .1 .1 .1 .1 .0) stepped
+    (turn .loop-test .taken) (called .step .result) (last .0) (last .1 .1 .0) (last .1 .1 .1 .0) (last .1 .1 .1 .1 .0) (s .took (not-false _ (c .before .before .if1 .left)))
+    (kept .0) (kept .1 .0) (kept .1 .1 .0)
 
 same-length-5 : tie.Need-same-length-5 Inv-loop μ-loop
 same-length-5 c = search needs
@@ -159,8 +121,7 @@ run-spec =
     same-length-3
     same-length-4
     returns
-    add-play-rounds
-    play-rounds-requires
+    add-i
     loop-less
     loop-again
     same-length-5
