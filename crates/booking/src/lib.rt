@@ -1,4 +1,6 @@
 // Booking by value: equal to the model's call, for every input.
+#![tactic(auto)]
+
 pub mod append;
 pub mod request;
 
@@ -26,7 +28,7 @@ use rounds::sheet::sum_sheet;
 use search::{Found, first_start};
 
 // What a booking gives: the answer, the day and the list's first 256 places.
-#[derive(Drop)]
+#[derive(Clone, Copy)]
 pub struct Outcome {
     pub answer: Answer,
     pub day: Day,

@@ -1,4 +1,6 @@
 // The command grammar: a line of bytes is a command, or it is not.
+#![tactic(auto)]
+
 ghost use Rattle.std.specs.Prelude.{◌≡◌, ◌≤◌, length, drop};
 ghost use Rattle.laws.specs.Fold.{fold};
 ghost use Rattle.commands.specs.Grammar.{command_of, same as Grammar·same};
@@ -8,7 +10,7 @@ use limits::bounds::{MAX_DIGITS, MAX_LINE};
 use model::Request;
 
 // OPEN T D M; BOOK with its request; DROP name; PLAY; no command, refusal 24.
-#[derive(Drop)]
+#[derive(Clone, Copy)]
 pub enum Command {
     Open(u64, u64, u64),
     Book(Request),
@@ -30,7 +32,7 @@ const VERB: usize = 4;
 const MAX_NUMERALS: u64 = 7;
 
 // The numerals read so far: how many, and the last seven, the latest in n7.
-#[derive(Drop)]
+#[derive(Clone, Copy)]
 pub struct Fields {
     pub count: u64,
     pub n1: u64,
@@ -43,14 +45,14 @@ pub struct Fields {
 }
 
 // The numeral being read: its digits so far, and their value.
-#[derive(Drop)]
+#[derive(Clone, Copy)]
 pub struct Numeral {
     pub digits: u64,
     pub value: u64,
 }
 
 // Where reading a line's numerals stands.
-#[derive(Drop)]
+#[derive(Clone, Copy)]
 pub enum Scan {
     At(Fields, Numeral),
     Bad,

@@ -18,7 +18,7 @@ use playing::play;
 const PLACES: u64 = HALL_PLACES as u64;
 
 // A command carried out: the session after it, its answer and the lines of its report from the front.
-#[derive(Drop)]
+#[derive(Clone, Copy)]
 pub struct Carried {
     pub session: Session,
     pub answer: Answer,

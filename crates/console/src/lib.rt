@@ -1,4 +1,6 @@
 // One command of a session: it is carried out on the day, and its answer is written as text.
+#![tactic(auto)]
+
 pub mod answer;
 pub mod calls;
 
@@ -16,14 +18,14 @@ use model::{Booking, Day};
 pub const OUTPUT_BYTES: usize = 8192;
 
 // What stands between two commands: the day and the records' places.
-#[derive(Drop)]
+#[derive(Clone, Copy)]
 pub struct Session {
     pub day: Day,
     pub rows: [Booking; MAX_BOOKINGS],
 }
 
 // The session after a command, and how many bytes of text answer it.
-#[derive(Drop)]
+#[derive(Clone, Copy)]
 pub struct Stepped {
     pub session: Session,
     pub length: usize,

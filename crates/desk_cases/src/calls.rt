@@ -20,7 +20,7 @@ pub const PLAY: u64 = 35;
 pub const BOOK_NARROW: u64 = 36;
 
 // A call's answer, and the desk after it.
-#[derive(Drop)]
+#[derive(Clone, Copy)]
 pub struct Called {
     pub answer: Answer,
     pub desk: Desk,

@@ -19,7 +19,7 @@ pub const GARBAGE: u64 = 20;
 pub const REPORT: u64 = 21;
 
 // The day, its records and the report; of the film file, the record list, the sheet's lists and the report, how much is lent.
-#[derive(Drop)]
+#[derive(Clone, Copy)]
 pub struct Desk {
     pub length: usize,
     pub day: Day,

@@ -1,4 +1,6 @@
 // Carries out a script over the desk's calls: opening, booking, dropping, playing.
+#![tactic(auto)]
+
 mod calls;
 mod desk;
 mod garbage;

@@ -1,4 +1,6 @@
 // Dropping a booking.
+#![tactic(auto)]
+
 pub mod removal;
 pub mod standing;
 
@@ -20,7 +22,7 @@ use model::{Answer, Booking, Day};
 use questions::standing::standing_number;
 
 // What a drop answers, and the day and the records after it.
-#[derive(Drop)]
+#[derive(Clone, Copy)]
 pub struct DropOutcome {
     pub answer: Answer,
     pub day: Day,

@@ -1,5 +1,7 @@
 // The figures of document 01, each computed by the library and printed on a line: 'Figures for film 1', its starred lines with
 // their star, and the losses that 'The disk loss' names.
+#![tactic(auto)]
+
 mod bookings;
 mod schedules;
 mod words;

@@ -1,4 +1,6 @@
 // Carries out a script over the film file: verdict, reader and summary.
+#![tactic(auto)]
+
 ghost use Rattle.std.specs.Prelude.{◌<◌, ◌≤◌, length};
 
 use films::catalogue::verdict;

@@ -1,4 +1,6 @@
 // Writing a film file from film numbers, round counts and sizes.
+#![tactic(auto)]
+
 pub mod questions;
 mod words;
 pub mod write;

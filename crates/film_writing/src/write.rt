@@ -11,7 +11,7 @@ use crate::words::{put_half, put_word};
 use limits::refusals::NO_ROOM;
 
 // The answer of a call that writes a film file: a refusal's number, or how many bytes are written.
-#[derive(Drop)]
+#[derive(Clone, Copy)]
 pub enum Written {
     Refused(u32),
     Length(u64),

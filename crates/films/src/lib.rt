@@ -1,4 +1,6 @@
 // The film file: its verdict, the catalogue of its films, lookup, the reader and the summary.
+#![tactic(auto)]
+
 pub mod catalogue;
 mod entries;
 pub mod lookup;

@@ -1,4 +1,6 @@
 // Carries out a script over the conversion of frame sizes to round sizes.
+#![tactic(auto)]
+
 ghost use Prim.Native.Nat.{◌<◌, ◌≤◌};
 ghost use lib.ListN.{length};
 ghost use Rattle.io.specs.Counts.{IsPrefixLen};

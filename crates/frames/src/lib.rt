@@ -1,4 +1,6 @@
 // From the sizes of a film's frames to those of its rounds.
+#![tactic(auto)]
+
 ghost use mathlib.Core.Path.{◌≡◌};
 ghost use mathlib.Core.Bool.{true};
 ghost use mathlib.Core.List.{◌∷◌, [], ◌++◌};
@@ -13,7 +15,7 @@ use limits::bounds::{MAX_FRAMES, MAX_MILLISECONDS, MAX_RATE, MAX_ROUNDS, MAX_SIZ
 use limits::refusals::{FRAMES, NO_ROOM, ROUND_COUNT, SIZE_BOUND};
 
 // A rate of num/den frames per second, and rounds of q milliseconds.
-#[derive(Drop)]
+#[derive(Clone, Copy)]
 pub struct Timing {
     pub num: u64,
     pub den: u64,
@@ -21,7 +23,7 @@ pub struct Timing {
 }
 
 // The answer of a conversion: a refusal's number, or the film's rounds.
-#[derive(Drop)]
+#[derive(Clone, Copy)]
 pub enum Converted {
     Refused(u32),
     Rounds(u64),

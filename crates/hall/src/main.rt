@@ -1,4 +1,6 @@
 // The program: films.bin, then the commands of standard input, each answered at once on standard output.
+#![tactic(auto)]
+
 ghost use Rattle.std.specs.Prelude.{◌≤◌, length};
 ghost use Rattle.io.specs.Counts.{IsPrefixLen};
 

@@ -12,7 +12,7 @@ use reader::types::{Entry, Reader, RoundSize, Summary};
 // An entry of a film file: its refusal, or 0; 1 if there is an entry, and 0 if there is no more; the film's number and round
 // count.
 #[repr(C)]
-#[derive(Drop)]
+#[derive(Clone, Copy)]
 pub struct Film {
     pub refusal: u32,
     pub more: u32,
@@ -22,7 +22,7 @@ pub struct Film {
 
 // A film's summary: the refusal, or 0; total, largest size and mean size in bytes.
 #[repr(C)]
-#[derive(Drop)]
+#[derive(Clone, Copy)]
 pub struct Figures {
     pub refusal: u32,
     pub total: u64,
@@ -32,7 +32,7 @@ pub struct Figures {
 
 // A round's size: the refusal, or 0; 1 if the film has that round; its bytes.
 #[repr(C)]
-#[derive(Drop)]
+#[derive(Clone, Copy)]
 pub struct Size {
     pub refusal: u32,
     pub exists: u32,

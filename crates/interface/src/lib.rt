@@ -1,5 +1,7 @@
 // The interface for C and Rust: the structs that its functions give, each answer as plain numbers, and the calls that no list of records
 // is lent to.
+#![tactic(auto)]
+
 pub mod desk_calls;
 pub mod film_calls;
 pub mod plan_calls;

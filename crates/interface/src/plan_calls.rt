@@ -12,7 +12,7 @@ use planning::schedules::{Scheduled, schedule};
 
 // A least reserve: the refusal, or 0; its bytes.
 #[repr(C)]
-#[derive(Drop)]
+#[derive(Clone, Copy)]
 pub struct Reserve {
     pub refusal: u32,
     pub bytes: u64,

@@ -8,7 +8,7 @@ use model::{Answer, Booking, Day, Line};
 use playing::play;
 
 // What a played round answers, the day after it, its lines from the front, and how many they are.
-#[derive(Drop)]
+#[derive(Clone, Copy)]
 pub struct Round {
     pub answer: Answer,
     pub day: Day,

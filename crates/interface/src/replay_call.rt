@@ -7,7 +7,7 @@ use model::Day;
 // What a replay gives: the opening's refusal, or 0; how many entries were carried out; how many words of the log were written; and
 // the day after them.
 #[repr(C)]
-#[derive(Drop)]
+#[derive(Clone, Copy)]
 pub struct Replayed {
     pub refusal: u32,
     pub entries: u64,

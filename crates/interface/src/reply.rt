@@ -7,7 +7,7 @@ use model::{Answer, Day};
 // The refusal's number, or 0; a booking's start; the films open and the cabs served in a played round; and the day after the call.
 // What the call does not give is 0.
 #[repr(C)]
-#[derive(Drop)]
+#[derive(Clone, Copy)]
 pub struct Reply {
     pub refusal: u32,
     pub start: u64,

@@ -1,1 +1,3 @@
 // Shared lemmas; no code. See specs/.
+#![tactic(auto)]
+

@@ -6,7 +6,7 @@ ghost use Rattle.lent.specs.FilmReader.{started, entry_here, moved};
 use reader::types::{Entry, Reader, Step};
 
 // The file's bytes, its refusal or 0, and how many entries were given.
-#[derive(Drop)]
+#[derive(Clone, Copy)]
 pub struct FilmReader<'a> {
     pub file: &'a [u8],
     pub refusal: u32,

@@ -1,4 +1,6 @@
 // The line splitter: it takes bytes as they come and never holds more than a line.
+#![tactic(auto)]
+
 ghost use Rattle.std.specs.Prelude.{◌≡◌};
 ghost use Rattle.lines.specs.Lines.{started, continued, fed, held_of, command_held};
 ghost use Rattle.lines.specs.Feeding.{Feeds};
@@ -8,7 +10,7 @@ use limits::bounds::MAX_LINE;
 
 // The line that is being read: its first 200 bytes, how many of these are there, and whether it is longer. `ended` says that
 // the line is complete, and that the next byte begins another one.
-#[derive(Drop)]
+#[derive(Clone, Copy)]
 pub struct Splitter {
     pub bytes: [u8; MAX_LINE],
     pub length: usize,
@@ -61,7 +63,7 @@ pub fn feed(s: Splitter, byte: u8) -> Splitter
 }
 
 // The splitter after some bytes, and the place of the next one.
-#[derive(Drop)]
+#[derive(Clone, Copy)]
 pub struct Fed {
     pub splitter: Splitter,
     pub next: usize,

@@ -9,7 +9,7 @@ use limits::bounds::MAX_BOOKINGS;
 use model::Booking;
 
 // A booking together with its film's place in the file.
-#[derive(Drop)]
+#[derive(Clone, Copy)]
 pub struct Stream {
     // offset of the film's sizes in the file, in bytes
     pub at: usize,

@@ -1,4 +1,6 @@
 // The disk loss: what a round with k films open loses to arm movement.
+#![tactic(auto)]
+
 ghost use Rattle.std.specs.Prelude.{◌≡◌};
 ghost use Rattle.loss.specs.Loss.{table, loss_at};
 

@@ -1,9 +1,11 @@
 // What a call of the desk is lent, given and gives, as plain data. The structs are laid out as in C, so that a program in C or
 // Rust can lend them.
+#![tactic(auto)]
+
 
 // A record of the list of bookings. The desk chooses the name; cabs has one bit per cab.
 #[repr(C)]
-#[derive(Drop)]
+#[derive(Clone, Copy)]
 pub struct Booking {
     pub name: u32,
     pub film: u16,
@@ -16,7 +18,7 @@ pub struct Booking {
 // A booking as it is asked for. Every number but the name is 64 bits wide, so that one too large for its field meets that
 // field's own question.
 #[repr(C)]
-#[derive(Drop)]
+#[derive(Clone, Copy)]
 pub struct Request {
     pub name: u32,
     pub film: u64,
@@ -30,7 +32,7 @@ pub struct Request {
 // A day: T rounds, the disk limit D in bytes per round, the memory limit M in bytes, the current round and the number of
 // bookings that stand.
 #[repr(C)]
-#[derive(Drop)]
+#[derive(Clone, Copy)]
 pub struct Day {
     pub rounds: u64,
     pub disk: u64,
@@ -41,7 +43,7 @@ pub struct Day {
 
 // A line of a round's report, in bytes.
 #[repr(C)]
-#[derive(Drop)]
+#[derive(Clone, Copy)]
 pub struct Line {
     pub name: u32,
     pub read: u64,
@@ -51,7 +53,7 @@ pub struct Line {
 
 // What a call answers: a refusal's number; an opened day; a booking's start; a name taken out; the films open and the cabs
 // served in a played round.
-#[derive(Drop)]
+#[derive(Clone, Copy)]
 pub enum Answer {
     Refused(u32),
     Opened,

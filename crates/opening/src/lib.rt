@@ -1,4 +1,6 @@
 // Opening a day.
+#![tactic(auto)]
+
 pub mod clear;
 
 ghost use Rattle.std.specs.Prelude.{List, ℕ};
@@ -13,7 +15,7 @@ use model::{Answer, Day};
 use questions::asked::opening_number;
 
 // What an opening answers, and the day after it.
-#[derive(Drop)]
+#[derive(Clone, Copy)]
 pub struct Opened {
     pub answer: Answer,
     pub day: Day,

@@ -19,7 +19,7 @@ use limits::refusals::{CAP, NO_FILM, PREFETCH};
 use retrieval::{carry_before, larger};
 
 // The answer of a call for a least reserve: a refusal's number, or the bytes per round.
-#[derive(Drop)]
+#[derive(Clone, Copy)]
 pub enum Reserve {
     Refused(u32),
     Bytes(u64),

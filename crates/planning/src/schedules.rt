@@ -19,7 +19,7 @@ use limits::refusals::{NO_FILM, NO_ROOM, NO_SCHEDULE, PREFETCH, RESERVE};
 use retrieval::{exists, larger, send_at};
 
 // The answer of a call for a schedule: a refusal's number, or how many totals are written.
-#[derive(Drop)]
+#[derive(Clone, Copy)]
 pub enum Scheduled {
     Refused(u32),
     Written(u64),

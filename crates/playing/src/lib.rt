@@ -1,4 +1,6 @@
 // Playing a round of a day, by value.
+#![tactic(auto)]
+
 pub mod cabs;
 pub mod lines;
 
@@ -19,7 +21,7 @@ use model::{Answer, Booking, Day, Line};
 use questions::standing::standing_number;
 
 // What a played round answers, the day after it, and the lines of its report from the front.
-#[derive(Drop)]
+#[derive(Clone, Copy)]
 pub struct Played {
     pub answer: Answer,
     pub day: Day,

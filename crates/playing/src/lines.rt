@@ -14,7 +14,7 @@ use model::{Booking, Day, Line};
 use retrieval::round_at;
 
 // The lines of a round, from the front, and their number.
-#[derive(Drop)]
+#[derive(Clone, Copy)]
 pub struct Report {
     pub lines: [Line; MAX_BOOKINGS],
     pub open: u64,

@@ -1,4 +1,6 @@
 // The program from its film file on: what it prints of the file, of the input as it comes, and at the input's end.
+#![tactic(auto)]
+
 ghost use Rattle.std.specs.Prelude.{◌≡◌, false};
 ghost use Rattle.console.specs.Contract.{with_sheet, after_of};
 ghost use Rattle.program.specs.Program.{file_number};
@@ -13,7 +15,7 @@ use lines::{Splitter, command, feed_line};
 use model::Answer;
 
 // Whether the program goes on with its film file, and how many bytes of text it prints first.
-#[derive(Drop)]
+#[derive(Clone, Copy)]
 pub struct Begun {
     pub accepted: bool,
     pub length: usize,
@@ -21,7 +23,7 @@ pub struct Begun {
 
 // The session and the line that is being read after some bytes, the place of the next byte, and how many bytes of text answer
 // the line that ended.
-#[derive(Drop)]
+#[derive(Clone, Copy)]
 pub struct Served {
     pub session: Session,
     pub splitter: Splitter,

@@ -5,7 +5,7 @@ ghost use Rattle.replay.specs.Journal.{entry_words, entry_of, entry_at};
 use model::Request;
 
 // What an entry asks for: a call, or no call.
-#[derive(Drop)]
+#[derive(Clone, Copy)]
 pub enum Entry {
     Book(Request),
     Drop(u32),

@@ -1,4 +1,6 @@
 // Replay of a day's journal.
+#![tactic(auto)]
+
 pub mod journal;
 pub mod log;
 pub mod step;
@@ -26,7 +28,7 @@ use step::step;
 
 // What a replay gives: the opening's refusal or 0, how many entries were done, how many words of the log were written, the day and
 // the list's first 256 places.
-#[derive(Drop)]
+#[derive(Clone, Copy)]
 pub struct Replayed {
     pub refusal: u32,
     pub entries: u64,

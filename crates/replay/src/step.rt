@@ -21,7 +21,7 @@ use model::{Answer, Booking, Day, Request};
 use playing::play_standing;
 
 // What an entry leaves: whether it was done, the place in the log after it, the day and the records' places.
-#[derive(Drop)]
+#[derive(Clone, Copy)]
 pub struct Stepped {
     pub done: bool,
     pub next: usize,

@@ -1,6 +1,8 @@
 // A film's just-in-time schedule, where its sizes stand in the file: whether there is one, its peak, what it holds, one round.
 // Each is one pass backward over the sizes, with no buffer. The film's n sizes stand at offset `at`, p is its pre-fetch rounds
 // and b its reserve in bytes per round; rounds are counted from its start.
+#![tactic(auto)]
+
 ghost use Rattle.std.specs.Prelude.{◌≡◌, ◌+◌, ◌-◌, ◌^◌, ◌≤◌, ◌<◌, min, max, get_or, drop};
 ghost use Rattle.limits.specs.Bounds.{max_size};
 ghost use Rattle.films.specs.Sizes.{Stored};
@@ -14,7 +16,7 @@ ghost use Rattle.retrieval.specs.Round.{round_of};
 use films::words::size_at;
 
 // What one round of a film reads, sends and holds, in bytes.
-#[derive(Drop)]
+#[derive(Clone, Copy)]
 pub struct Round {
     pub read: u64,
     pub send: u64,

@@ -20,7 +20,7 @@ pub const BLOCK_WORDS: usize = 3000;
 pub const BLOCK_ROUNDS: usize = 1000;
 
 // The first round of a block, how many rounds and how many rows it has.
-#[derive(Drop)]
+#[derive(Clone, Copy)]
 pub struct Block {
     pub from: usize,
     pub rounds: usize,

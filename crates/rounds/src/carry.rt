@@ -9,7 +9,7 @@ use load::stream::{Stream, open_in};
 use retrieval::{carry_before, send_at};
 
 // The bytes held in a round, and the carry of the rounds from it on.
-#[derive(Drop)]
+#[derive(Clone, Copy)]
 pub struct Held {
     pub held: u64,
     pub carry: u64,

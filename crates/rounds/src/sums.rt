@@ -8,7 +8,7 @@ ghost use Rattle.rounds.specs.Sums.{head_at, busy_head, with_one, sums_in, RoomF
 use crate::block::{Block, HEAD_WORDS};
 
 // The words of a row before those of the rounds: rounds, and bytes per round, and a bit per cab.
-#[derive(Drop)]
+#[derive(Clone, Copy)]
 struct Head {
     start: u64,
     shows: u64,
@@ -19,7 +19,7 @@ struct Head {
 
 // Of the bookings open in a round: how many, their reserves and what they hold, in bytes, the cabs busy, and those of the cabs that
 // show two films.
-#[derive(Drop)]
+#[derive(Clone, Copy)]
 pub struct Sums {
     pub films: u64,
     pub reserves: u64,

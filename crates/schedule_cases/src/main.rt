@@ -1,4 +1,6 @@
 // Carries out a script over the calls for a film's schedule, for its least reserve and for what it holds.
+#![tactic(auto)]
+
 ghost use Rattle.std.specs.Prelude.{◌+◌, ◌<◌, ◌≤◌, length};
 ghost use Rattle.films.specs.Sizes.{Stored};
 ghost use Rattle.retrieval.specs.Stored.{InRange};

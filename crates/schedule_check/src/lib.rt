@@ -1,4 +1,6 @@
 // The call that checks read totals made by another planner, over any film file, any request and any list.
+#![tactic(auto)]
+
 ghost use mathlib.Core.Path.{◌≡◌};
 ghost use Rattle.laws.specs.Questions.{Answers};
 ghost use Rattle.films.specs.Sizes.{sizes, Stored};
@@ -14,7 +16,7 @@ use retrieval::exists;
 
 // The answer of a check: a refusal's number; or the list's peak, and the most that it holds above the just-in-time schedule in a
 // round, in bytes.
-#[derive(Drop)]
+#[derive(Clone, Copy)]
 pub enum Checked {
     Refused(u32),
     Passed(u64, u64),

@@ -1,4 +1,6 @@
 // The first start of a booking's window that fits.
+#![tactic(auto)]
+
 mod cabs;
 mod disk;
 mod memory;
@@ -15,7 +17,7 @@ use limits::bounds::{MAX_PREFETCH, MAX_ROUNDS};
 use load::stream::Stream;
 
 // A start, or none of the window's.
-#[derive(Drop)]
+#[derive(Clone, Copy)]
 pub enum Found {
     At(u64),
     Nowhere,

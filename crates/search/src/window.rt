@@ -10,7 +10,7 @@ use load::stream::Stream;
 
 // A start to try, the round up to which its rounds are known to be free for the disk, and the round of the stream's own in
 // which memory refused a start before.
-#[derive(Drop)]
+#[derive(Clone, Copy)]
 pub struct Candidate {
     pub start: usize,
     pub clear: usize,
@@ -18,7 +18,7 @@ pub struct Candidate {
 }
 
 // What a start is found to be: it fits, or the next one to try.
-#[derive(Drop)]
+#[derive(Clone, Copy)]
 pub enum Step {
     Fits,
     Next(Candidate),

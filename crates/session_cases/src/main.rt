@@ -1,4 +1,6 @@
 // Carries out a script of sessions of the program, by the program's own splitter, grammar, calls and text.
+#![tactic(auto)]
+
 mod session;
 
 ghost use Rattle.std.specs.Prelude.{◌<◌, ◌≤◌, length};
@@ -22,7 +24,7 @@ const REPEAT: u64 = 18;
 const END: u64 = 19;
 
 // The session that the script has begun, and the film file's length.
-#[derive(Drop)]
+#[derive(Clone, Copy)]
 struct Case {
     running: Running,
     length: usize,

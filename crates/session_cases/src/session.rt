@@ -11,7 +11,7 @@ const PART: usize = 4096;
 
 // Where a session stands: the line that is being read, the day and its records, and whether the film file was accepted. With
 // one that was refused the input is not read.
-#[derive(Drop)]
+#[derive(Clone, Copy)]
 pub struct Running {
     pub splitter: Splitter,
     pub session: Session,

@@ -1,4 +1,6 @@
 // The output text, written into a lent buffer from a place on.
+#![tactic(auto)]
+
 ghost use Rattle.std.specs.Prelude.{◌≡◌, ◌++◌, ◌+◌, ◌*◌, ◌≤◌, ◌<◌, length};
 ghost use Rattle.limits.specs.Bounds.{max_digits};
 ghost use Rattle.text.specs.Text.{decimal, field, end, answer_fields, answer_text, line_text};
@@ -7,7 +9,7 @@ ghost use Rattle.text.specs.Write.{Wrote, max_field, max_text, buffer_after, pla
 use model::{Answer, Line};
 
 // The place after what was written; or the buffer had no room for a line of the longest kind, and nothing was written.
-#[derive(Drop)]
+#[derive(Clone, Copy)]
 pub enum Written {
     Next(usize),
     NoRoom,

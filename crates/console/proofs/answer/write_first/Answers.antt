@@ -1,0 +1,23 @@
+-- `console::answer::write_first` meets its contract: there is room for any line. Assumes nothing.
+use borrow.Author.Rules.{rules}
+use Rattle.text.specs.Text.{answer_text}
+use Rattle.console.specs.Writing.{next-wrote, never-full}
+use Rattle.console.proofs.answer.write_first.Goals as goal
+
+pub returns-in-Next : goal.returns-in-Next
+returns-in-Next c =
+    let wrote = c.write_answer in
+    let start = c in
+    let a = start.args in
+    next-wrote a.out.now 0 (answer_text a.name a.round a.answer) start.requires wrote.result _ _
+    c.in-Next.is
+    wrote.ensures.0
+    wrote.ensures.1
+
+pub returns-in-NoRoom : goal.returns-in-NoRoom
+returns-in-NoRoom c =
+    let wrote = c.write_answer in
+    let start = c in
+    let a = start.args in
+    absurd
+    (never-full a.out.now 0 (answer_text a.name a.round a.answer) start.requires wrote.result c.in-NoRoom.is wrote.ensures.0)

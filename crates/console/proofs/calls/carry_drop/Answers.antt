@@ -1,0 +1,12 @@
+-- `console::calls::carry_drop` meets its contract: it is the model's drop, with no line. Assumes nothing.
+use borrow.Author.Rules.{rules}
+use Rattle.console.specs.Carrying.{drop-carries}
+use Rattle.console.proofs.calls.carry_drop.Goals as goal
+
+pub returns : goal.returns
+returns c =
+    let after = c in
+    let call = after in
+    let a = call.args in
+    rw (c.left.ensures, c.no_lines.ensures)
+    (drop-carries a.file.now a.s a.opens.now a.reserves.now a.helds.now a.name call.drop_booking-dropped.result _ _ _ call.drop_booking-dropped.ensures)

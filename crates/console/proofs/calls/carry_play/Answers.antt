@@ -1,0 +1,10 @@
+-- `console::calls::carry_play` meets its contract: it is the model's play, on any sheet. Assumes nothing.
+use borrow.Author.Rules.{rules}
+use Rattle.console.specs.Carrying.{play-carries}
+use Rattle.console.proofs.calls.carry_play.Goals as goal
+
+pub returns : goal.returns
+returns c opens reserves helds =
+    let call = c in
+    let a = call.args in
+    rw c.left.ensures (play-carries a.file.now a.s opens reserves helds call.play-played.result call.play-played.ensures)

@@ -1,0 +1,8 @@
+-- `film_calls::size_at` meets its contract: the numbers of the round's size. Assumes nothing.
+use mathlib.Core.Path.{ap, ◌∙◌}
+use Rattle.interface.specs.FilmCalls.{size_of}
+use borrow.Author.Rules.{rules}
+use Rattle.interface.proofs.film_calls.size_at.Goals as goal
+
+pub returns : goal.returns
+returns c = c.type_size.ensures ∙ ap size_of c.round_size.ensures.0

@@ -1,0 +1,17 @@
+-- `load::names::name_in` meets its contract. The invariant: the answer is that of the bookings from i on. The measure is what is left of
+-- them. Assumes nothing.
+use mathlib.Core.Path.{◌≡◌, sym, ◌∙◌}
+use Prim.Native.Nat.{◌-◌, ◌≤◌}
+use native.Mathlib.Omega.{arith}
+use borrow.Author.Rules.{rules}
+use lib.Seq.{slice}
+use Rattle.model.specs.Questions.{has_name}
+use Rattle.model.specs.Calls.{no_booking}
+use Rattle.load.proofs.NameLaws.{name-here, name-next, name-end}
+use Rattle.load.proofs.names.name_in.Given as goal
+
+abbrev pub invariant-loop-i : goal.invariant-loop-i
+invariant-loop-i l = (l.i ≤ l.count) × (has_name l.name (slice l.from l.count l.rows) ≡ has_name l.name (slice l.i l.count l.rows))
+
+abbrev pub decreases-loop-i : goal.decreases-loop-i
+decreases-loop-i l = l.count - l.i

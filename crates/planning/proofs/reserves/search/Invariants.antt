@@ -1,0 +1,20 @@
+-- `planning::reserves::search` meets its contract. The invariant: hi serves, and whatever serves is at least lo. The measure
+-- is hi - lo. Assumes nothing.
+use mathlib.Core.Path.{◌≡◌}
+use Prim.Native.Nat.{ℕ, ◌≤◌, ◌+◌, ◌-◌, ◌/◌}
+use native.Mathlib.Omega.{arith}
+use borrow.Author.Rules.{rules}
+use Rattle.retrieval.specs.LeastReserve.{Serves}
+use Rattle.retrieval.specs.ReserveLaws.{serves_by-yes, serves_by-no, serves-above}
+use Rattle.retrieval.specs.Stored.{sends_at}
+use Rattle.planning.proofs.reserves.search.Given as goal
+
+abbrev pub invariant-loop-lo : goal.invariant-loop-lo
+invariant-loop-lo l =
+    (l.lo ≤ l.hi)
+    × (l.hi ≤ l.high)
+    × Serves (sends_at l.file l.at l.n l.p) l.cap l.hi
+    × ((b : ℕ) → Serves (sends_at l.file l.at l.n l.p) l.cap b → l.lo ≤ b)
+
+abbrev pub decreases-loop-lo : goal.decreases-loop-lo
+decreases-loop-lo l = l.hi - l.lo

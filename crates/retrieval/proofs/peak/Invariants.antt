@@ -1,0 +1,24 @@
+-- `retrieval::peak` meets its contract. The invariant: c is the carry of the sizes from i on, and most is their peak; the
+-- pre-fetch holds no more. The measure is i. Assumes nothing.
+use mathlib.Core.Path.{◌≡◌, sym, ap, ◌∙◌}
+use Prim.Native.Nat.{◌≤◌, ◌-◌}
+use native.Mathlib.Omega.{arith}
+use borrow.Author.Rules.{rules}
+use lib.ListN.{drop}
+use Rattle.laws.specs.Sums.{largest}
+use Rattle.films.specs.Sizes.{sizes}
+use Rattle.retrieval.specs.Carry.{carry, profile}
+use Rattle.retrieval.specs.CarryLaws.{just_in_time-helds, prefetch-peak}
+use Rattle.retrieval.specs.Stored.{sends_at, max_held, length-sizes, sizes-at, size_small, drop-sizes, turn-held, turn-carry, turn-peak, held-bound}
+use Rattle.retrieval.proofs.peak.Given as goal
+
+abbrev pub invariant-loop-i : goal.invariant-loop-i
+invariant-loop-i l =
+    (l.i ≤ l.n)
+    × (l.c ≡ carry l.b (drop l.i (sizes l.file l.at l.n)))
+    × (l.most ≡ largest (profile l.b (drop l.i (sizes l.file l.at l.n))))
+    × (l.c ≤ max_held)
+    × (l.most ≤ max_held)
+
+abbrev pub decreases-loop-i : goal.decreases-loop-i
+decreases-loop-i l = l.i
