@@ -37,7 +37,7 @@ pub shape_of-opens : goal.shape_of-opens
 shape_of-opens c =
     let ran = c in
     let opened = ran in
-    ran.run.auto.1.1.1.1.1.1.1.0 ∙ opened.«open».auto.1.1.1.1.0
+    ran.run.auto.opens ∙ opened.«open».auto.1.1.1.1.0
 
 pub returns : goal.returns
 returns c fits =

@@ -53,7 +53,7 @@ loop-i-preserved c =
     let a = start.args in
     let s = rw called.entry_at-entry.ensures at called.step-stepped.ensures in
     let last = called.step-stepped.new.log in
-    let kept = called.step-stepped.auto.1.1.1.1.1.1.1.1 in
+    let kept = called.step-stepped.auto.opens in
     going_next a.file.now a.day a.rows a.places a.journal.now a.log.now a.opens.now a.reserves.now a.helds.now _
     l.log l.opens l.reserves l.helds l.today l.list l.at l.i l.invariant
     turn.loop-i-test.true called.step-stepped.result last.0 last.1.1.0 last.1.1.1.0 last.1.1.1.1.0 (s.took (c.if-not-stepped.false))

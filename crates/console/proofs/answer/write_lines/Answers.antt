@@ -25,7 +25,7 @@ loop-i-preserved c =
     let start = c in
     let a = start.args in (
       omega arith,
-      wrote.auto.0 ∙ loop.invariant.1,
+      wrote.auto.out ∙ loop.invariant.1,
       lines_more a.out.now a.from a.lines loop.i loop.out loop.at _ _ (omega (arith, start)) (omega arith) loop.invariant.2 wrote.ensures,
     )
 

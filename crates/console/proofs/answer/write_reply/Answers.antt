@@ -11,7 +11,7 @@ write_lines-requires c =
     let start = c in
     let a = start.args in (
       omega arith,
-      omega (arith, first.ensures.place, first.auto.0, answer-length a.name a.round a.answer),
+      omega (arith, first.ensures.place, first.auto.out, answer-length a.name a.round a.answer),
     )
 
 pub returns : goal.returns

@@ -91,7 +91,7 @@ loop-t-preserved c =
     ∙ kept-sums f lost.result a.disk a.memory ys k (table-losses lost.result lost.ensures) (omega (arith, length-take a.count a.xs, start.requires.few)) in
     let block = l.invariant.2 ∙ rounds-block p q l.t looked.result.rounds a.day_rounds asked.result found.within same told in
     let yes = c.if-not-block_kept.false in
-    (found.within, looked.auto.1.1.1.1.1.1.0 ∙ l.invariant.1, block ∙ ap (λ (r : Bool). r && in_rounds end (a.day_rounds - end) p) yes)
+    (found.within, looked.auto.words ∙ l.invariant.1, block ∙ ap (λ (r : Bool). r && in_rounds end (a.day_rounds - end) p) yes)
 
 pub returns : goal.returns
 returns c =
