@@ -1,6 +1,5 @@
 use mathlib.Core.Path.{◌≡◌, refl, sym, ap, ◌∙◌}
 use mathlib.Core.Bool.{true}
-use mathlib.Core.Logic.{⊎_elim}
 use Prim.Native.Nat.{ℕ, ◌-◌, ◌≤◌}
 use native.Mathlib.Omega.{arith}
 use borrow.Author.Rules.{rules}
@@ -15,6 +14,7 @@ use Rattle.playing.specs.Lines.{padded}
 use Rattle.playing.specs.Ready.{row-tied, row-exists, row-playable}
 use Rattle.playing.specs.LineLaws.{line-tied, report-open, report-shut}
 use Rattle.playing.proofs.lines.lines_of.Goals as goal
+use Rattle.playing.proofs.lines.lines_of.Goals.{then-open_in, else-open_in}
 
 pub loop-i-init : goal.loop-i-init
 loop-i-init c = (omega arith, omega arith, refl, refl)
@@ -57,16 +57,16 @@ loop-i-preserved c =
     let tied = row-tied a.file.now a.c a.day a.rows start.requires (omega arith) l.i (omega arith) x made.ensures in
     let ex = row-exists a.file.now a.c a.day a.rows start.requires (omega arith) l.i (omega arith) x made.ensures in
     let test : open_at S t b ≡ c.open_in.result = tied-open S a.file.now b x tied t ∙ sym c.open_in.ensures in
-    ⊎_elim
-    (λ w.
-    let yes : open_at S t b ≡ true = test ∙ w.0.taken in
-    let line = w.1.ensures ∙ line-tied S a.file.now t b x tied ex (sym (tied-open S a.file.now b x tied t) ∙ yes) in
-    let turn = report-open S t a.rows l.i no_booking (omega arith) l.lines l.k w.1.result yes line (omega arith) l.invariant.2 l.invariant.3 in
-    (omega arith, omega (arith, w.3), w.3 ∙ turn.0, w.2 ∙ turn.1))
-    (λ w.
-    let turn = report-shut S t a.rows l.i no_booking (omega arith) l.lines l.k (test ∙ w.0.left) l.invariant.2 l.invariant.3 in
-    (omega arith, omega (arith, w.2), w.2 ∙ turn.0, w.1 ∙ turn.1))
-    c.if-open_in.branch
+    elim c.if-open_in.branch [
+      then-open_in w ↦
+          let yes : open_at S t b ≡ true = test ∙ w.if-open_in.true in
+          let line = w.line_of-line.ensures ∙ line-tied S a.file.now t b x tied ex (sym (tied-open S a.file.now b x tied t) ∙ yes) in
+          let turn = report-open S t a.rows l.i no_booking (omega arith) l.lines l.k w.line_of-line.result yes line (omega arith) l.invariant.2 l.invariant.3 in
+          (omega arith, omega (arith, w.k-is), w.k-is ∙ turn.0, w.lines-is ∙ turn.1)
+      | else-open_in w ↦
+          let turn = report-shut S t a.rows l.i no_booking (omega arith) l.lines l.k (test ∙ w.if-open_in.false) l.invariant.2 l.invariant.3 in
+          (omega arith, omega (arith, w.k-is), w.k-is ∙ turn.0, w.lines-is ∙ turn.1)
+    ]
 
 pub returns : goal.returns
 returns c =
