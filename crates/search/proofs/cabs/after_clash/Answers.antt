@@ -1,6 +1,5 @@
 -- `search::cabs::after_clash` meets its contract, by its tests: a cab in common, and a common round. Assumes nothing.
 use native.Mathlib.Omega.{arith}
-use borrow.Author.Rules.{rules}
 use Rattle.search.specs.FitLaws.{after-apart, after-meets, after-misses}
 use Rattle.search.proofs.cabs.after_clash.Goals as goal
 

@@ -1,11 +1,6 @@
-use Prim.Native.Nat.{◌-◌, ◌≤◌}
-use mathlib.Core.Path.{◌≡◌, sym, ◌∙◌}
+use mathlib.Core.Path.{sym, ◌∙◌}
 use native.Mathlib.Omega.{arith}
-use borrow.Author.Rules.{rules}
-use lib.ListN.{take}
-use lib.Seq.{slice}
 use Rattle.load.specs.Stream.{no_stream}
-use Rattle.search.specs.Search.{after_clashes}
 use Rattle.search.specs.FitLaws.{clashes-stop, clashes-next, clashes-end, ends_at}
 use Rattle.search.proofs.cabs.after_clashes.Goals as goal
 

@@ -1,14 +1,10 @@
 -- `search::cabs::after_clashes` meets its contract. The invariant: the streams from i on decide. The measure is what is left of
 -- the count. Assumes nothing.
 use Prim.Native.Nat.{◌-◌, ◌≤◌}
-use mathlib.Core.Path.{◌≡◌, sym, ◌∙◌}
-use native.Mathlib.Omega.{arith}
-use borrow.Author.Rules.{rules}
+use mathlib.Core.Path.{◌≡◌}
 use lib.ListN.{take}
 use lib.Seq.{slice}
-use Rattle.load.specs.Stream.{no_stream}
 use Rattle.search.specs.Search.{after_clashes}
-use Rattle.search.specs.FitLaws.{clashes-stop, clashes-next, clashes-end, ends_at}
 use Rattle.search.proofs.cabs.after_clashes.Given as goal
 
 abbrev pub invariant-loop-i : goal.invariant-loop-i

@@ -1,12 +1,9 @@
 -- `search::disk::free_from` meets its contract. The invariant: the rounds from r on are free. The measure is what is left down to
 -- a. Assumes nothing.
-use Prim.Native.Nat.{ℕ, ◌+◌, ◌-◌, ◌≤◌, ◌<◌}
-use mathlib.Core.Path.{◌≡◌, sym, ◌∙◌}
+use Prim.Native.Nat.{ℕ, ◌-◌, ◌≤◌, ◌<◌}
+use mathlib.Core.Path.{◌≡◌}
 use mathlib.Core.Bool.{true}
-use native.Mathlib.Omega.{arith}
-use borrow.Author.Rules.{rules}
 use Rattle.search.specs.Fit.{disk_fits}
-use Rattle.search.specs.FitLaws.{pass-more}
 use Rattle.search.proofs.disk.free_from.Given as goal
 
 abbrev pub invariant-loop-r : goal.invariant-loop-r

@@ -1,13 +1,9 @@
 -- `search::memory::first_over` meets its contract. The invariant: memory takes the stream in each round before j. The measure is
 -- what is left of n. Assumes nothing.
-use Prim.Native.Nat.{ℕ, ◌+◌, ◌-◌, ◌≤◌, ◌<◌}
-use mathlib.Core.Path.{◌≡◌, sym, ◌∙◌}
+use Prim.Native.Nat.{ℕ, ◌-◌, ◌≤◌, ◌<◌}
+use mathlib.Core.Path.{◌≡◌}
 use mathlib.Core.Bool.{true}
-use native.Mathlib.Omega.{arith}
-use borrow.Author.Rules.{rules}
-use borrow.Author.Count.{below_more}
 use Rattle.search.specs.Fit.{memory_fits}
-use Rattle.search.specs.FitLaws.{fewer-held}
 use Rattle.search.proofs.memory.first_over.Given as goal
 
 abbrev pub invariant-loop-j : goal.invariant-loop-j

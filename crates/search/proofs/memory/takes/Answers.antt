@@ -3,7 +3,6 @@ use Prim.Native.Nat.{◌+◌}
 use mathlib.Core.Path.{refl}
 use native.Mathlib.Omega.{arith}
 use Rattle.search.specs.Fit.{memory_fits}
-use borrow.Author.Rules.{rules}
 use Rattle.search.proofs.memory.takes.Goals as goal
 
 pub overflow_add-result-2 : goal.overflow_add-result-2

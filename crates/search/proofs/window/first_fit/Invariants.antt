@@ -1,15 +1,9 @@
 -- `search::window::first_fit` meets its contract. The invariant: no start of the window before the candidate fits. The measure is
 -- what is left of the window, since the next candidate is always a later start. Assumes nothing.
 use Prim.Native.Nat.{ℕ, suc, ◌-◌, ◌≤◌}
-use mathlib.Core.Path.{◌≡◌, sym, ap, subst}
-use mathlib.Core.Bool.{true}
-use native.Mathlib.Omega.{arith}
-use borrow.Author.Rules.{rules}
 use lib.ListN.{take}
-use Rattle.search.specs.Fit.{Query, query_of, fits_at, answer_of}
-use Rattle.search.specs.Search.{Clear, NoneFits, Skips, Tells}
-use Rattle.search.specs.StepLaws.{none-on}
-use Rattle.search.specs.WindowLaws.{first_found, none_found}
+use Rattle.search.specs.Fit.{Query, query_of}
+use Rattle.search.specs.Search.{Clear, NoneFits}
 use Rattle.search.proofs.window.first_fit.Given as goal
 
 -- no start from first to the candidate's fits, and what is known of the candidate's rounds
