@@ -53,7 +53,7 @@ use Rattle.model.specs.Code.{state_of}
 use Rattle.questions.specs.Given.{setting_at}
 use Rattle.model.specs.declared.Request.{Request}
 use Rattle.booking.specs.Contract.{Leaves}
-use Rattle.interface.specs.DeskLaws.{book-over}
+use Rattle.interface.proofs.DeskLaws.{book-over}
 use Rattle.model.specs.contracts.Answer as An
 use Rattle.model.proofs.Answer.TheLaws as An'
 use Rattle.booking.specs.declared.Outcome.{Outcome}

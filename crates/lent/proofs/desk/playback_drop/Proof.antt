@@ -48,7 +48,7 @@ use Rattle.model.specs.declared.Day.{Day}
 use Rattle.model.specs.Code.{state_of}
 use Rattle.questions.specs.Given.{setting_at}
 use Rattle.dropping.specs.Contract.{Drops}
-use Rattle.interface.specs.DeskLaws.{drop-over}
+use Rattle.interface.proofs.DeskLaws.{drop-over}
 use Rattle.model.specs.contracts.Answer as An
 use Rattle.model.proofs.Answer.TheLaws as An'
 use Rattle.dropping.specs.declared.DropOutcome.{DropOutcome}

@@ -45,7 +45,7 @@ use Rattle.model.specs.declared.Booking.{Booking}
 use Rattle.model.specs.declared.Line.{Line}
 use Rattle.model.specs.declared.Day.{Day}
 use Rattle.interface.specs.Rounds.{Rounds}
-use Rattle.interface.specs.DeskLaws.{play-over}
+use Rattle.interface.proofs.DeskLaws.{play-over}
 use Rattle.model.specs.contracts.Answer as An
 use Rattle.model.proofs.Answer.TheLaws as An'
 use Rattle.interface.specs.declared.play_call.Round.{Round}

@@ -56,7 +56,7 @@ use Rattle.replay.proofs.replay.Symbol.{name as #replay·replay}
 use Rattle.replay.proofs.replay.Met as core-thm
 use Rattle.interface.specs.Records.{loaded, stored}
 use Rattle.interface.specs.ReplayCall.{told, ReplaysOver}
-use Rattle.interface.specs.ReplayLaws.{replay-over}
+use Rattle.interface.proofs.ReplayLaws.{replay-over}
 use Rattle.interface.specs.declared.replay_call.Replayed.{Replayed}
 use Rattle.lent.proofs.Rows.{Kind, R, cell, tells, makes, typed, Arr, amakes, atyped, rows_is}
 use Rattle.lent.proofs.Shapes.{booking, day, replayed}
