@@ -1,6 +1,6 @@
 -- `program::serve_line` meets its contract: a line fed, and answered if it has ended. Assumes nothing.
 use Rattle.console.specs.Contract.{with_sheet}
-use Rattle.lines.specs.FeedingLaws.{feeds-none}
+use Rattle.lines.proofs.FeedingLaws.{feeds-none}
 use Rattle.program.specs.Laws.{served-none, served-one}
 use Rattle.program.proofs.serve_line.Goals as goal
 
