@@ -8,7 +8,7 @@ use native.Mathlib.Omega.{arith}
 use Rattle.std.proofs.Math.ListN.{drop}
 use Rattle.std.proofs.Math.Seq.{drop-append_seam}
 use Rattle.laws.specs.Tests.{left, right, join, all, all-each, all_append}
-use Rattle.laws.specs.Words.{Bytes, bytes, number, number-bytes, length-bytes, bytes_small}
+use Rattle.laws.specs.Words.{Bytes, bytes, number-bytes, length-bytes, bytes_small}
 use Rattle.limits.specs.Bounds.{max_rounds, max_size}
 use Rattle.films.specs.Layout.{Film, rounds, entries, all_sizes, size_bytes, round_sum, encode, Rising, ValidFilm, Each, Valid}
 use Rattle.films.specs.Sizes.{sizes}

@@ -1,3 +1,2 @@
 // Shared lemmas; no code. See specs/.
 #![tactic(auto)]
-

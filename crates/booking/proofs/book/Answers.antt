@@ -19,22 +19,25 @@ returns-then-number-ne0 c =
     let a = start.args in
     let f = a.file.now in
     let first : number.result ≡ refusal (book_asks f a.day a.rows a.places a.q (length a.opens.now) (length a.reserves.now) (length a.helds.now)) =
-    sym (standing-first f a.day a.rows a.places (length a.opens.now) (length a.reserves.now) (length a.helds.now) _ number.result number.ensures c.if-number-ne0.true) in (
-      leaves-refused f a.day a.rows a.places a.q a.opens.now a.reserves.now a.helds.now number.result first c.if-number-ne0.true,
-      λ e.
+    sym (standing-first f a.day a.rows a.places (length a.opens.now) (length a.reserves.now) (length a.helds.now) _ number.result number.ensures c.if-number-ne0.true) in
+    record {
+      leaves = leaves-refused f a.day a.rows a.places a.q a.opens.now a.reserves.now a.helds.now number.result first c.if-number-ne0.true;
+      first =
+          λ e.
           absurd
           (c.if-number-ne0.true
           (first
           ∙ ap refusal (sym (asks-same f a.day a.rows a.places a.q a.opens.now a.reserves.now a.helds.now))
-          ∙ e)),
-    )
+          ∙ e));
+    }
 
 pub returns : goal.returns
 returns c =
     let placed = c in
     let start = placed in
     let a = start.args in
-    let f = a.file.now in (
-      placed.book_standing.ensures,
-      λ e. rw placed.book_standing.ensures.answer (book-first (setting_at f a.day) (state_of a.day a.rows a.places a.opens.now a.reserves.now a.helds.now) a.q e),
-    )
+    let f = a.file.now in
+    record {
+      leaves = placed.book_standing.ensures;
+      first = λ e. rw placed.book_standing.ensures.answer (book-first (setting_at f a.day) (state_of a.day a.rows a.places a.opens.now a.reserves.now a.helds.now) a.q e);
+    }

@@ -49,7 +49,7 @@ returns c =
     let start = at in
     let a = start.args in
     let held = stands a.file.now a.day a.rows a.places a.opens.now a.reserves.now a.helds.now 0 (sym start.requires.1) refl in
-    let after = laid.sum_standing.new.opens in
+    let after = laid.sum_standing.new in
     accepted-drops a.file.now a.day a.rows a.places a.opens.now a.reserves.now a.helds.now 0 (sym start.requires.1) a.name refl
-    at.position-i.result at.position-i.ensures found.if-i-count.false (omega (arith, held.few, start)) _ after.0 after.1.0 after.1.1.0 refl refl
+    at.position-i.result at.position-i.ensures found.if-i-count.false (omega (arith, held.few, start)) _ after.opens after.reserves after.helds refl refl
     closed.close_gap-rest.ensures laid.sum_standing.ensures

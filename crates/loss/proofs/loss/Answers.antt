@@ -2,7 +2,6 @@
 use native.Mathlib.Omega.{arith}
 use mathlib.Core.Path.{sym, refl}
 use lib.ListN.{get_or-eq_default}
-use borrow.Author.Rules.{rules}
 use Rattle.loss.specs.Loss.{table, table-length}
 use Rattle.loss.proofs.loss.Goals as goal
 

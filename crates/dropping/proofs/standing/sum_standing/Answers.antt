@@ -19,6 +19,6 @@ returns c =
     let made = laid in
     let start = made in
     let a = start.args in
-    let after = laid.sum_sheet.new.opens in
+    let after = laid.sum_sheet.new in
     summed-worked a.file.now a.c a.day a.rows a.count a.opens.now a.reserves.now a.helds.now start.requires (omega (arith, start))
-    made.streams_of-xs.result made.streams_of-xs.ensures after.0 after.1.0 after.1.1.0 laid.sum_sheet.ensures
+    made.streams_of-xs.result made.streams_of-xs.ensures after.opens after.reserves after.helds laid.sum_sheet.ensures

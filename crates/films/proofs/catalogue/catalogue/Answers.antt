@@ -4,10 +4,9 @@ use mathlib.Core.Path.{◌≡◌, sym, ap, ◌∙◌}
 use mathlib.Core.List.{List}
 use Prim.Native.Nat.{ℕ}
 use native.Mathlib.Omega.{arith}
-use borrow.Author.Rules.{rules}
 use Rattle.laws.specs.Questions.{refusal}
 use Rattle.films.specs.Questions.{rounds_before, head_questions}
-use Rattle.films.proofs.Stages.{headed, head-no, tail-no, none-no, Whole, whole, part_no}
+use Rattle.films.proofs.Stages.{headed, head-no, tail-no, none-no, whole, part_no}
 use Rattle.films.proofs.catalogue.catalogue.Goals as goal
 
 -- the head's questions hold

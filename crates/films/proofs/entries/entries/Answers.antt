@@ -1,8 +1,7 @@
-use Prim.Native.Nat.{◌+◌, ◌*◌, ◌-◌}
+use Prim.Native.Nat.{◌+◌, ◌*◌}
 use mathlib.Core.Path.{sym}
 use native.Mathlib.Omega.{arith}
-use borrow.Author.Rules.{rules}
-use Rattle.films.proofs.Reading.{Reading, reading-none, reading-more, reading-stops, entries-refused, entries-listed}
+use Rattle.films.proofs.Reading.{reading-none, reading-more, reading-stops, entries-refused, entries-listed}
 use Rattle.films.proofs.entries.entries.Goals as goal
 
 pub loop-i-init : goal.loop-i-init

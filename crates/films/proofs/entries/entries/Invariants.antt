@@ -1,10 +1,7 @@
 -- `films::entries::entries` meets its contract. The invariant: the first i entries stand in the arrays, their questions hold,
 -- and those of the rest are left. The measure is the entries left. Assumes nothing.
-use Prim.Native.Nat.{◌+◌, ◌*◌, ◌-◌}
-use mathlib.Core.Path.{sym}
-use native.Mathlib.Omega.{arith}
-use borrow.Author.Rules.{rules}
-use Rattle.films.proofs.Reading.{Reading, reading-none, reading-more, reading-stops, entries-refused, entries-listed}
+use Prim.Native.Nat.{◌-◌}
+use Rattle.films.proofs.Reading.{Reading}
 use Rattle.films.proofs.entries.entries.Given as goal
 
 abbrev pub invariant-loop-i : goal.invariant-loop-i

@@ -1,8 +1,7 @@
 -- `films::entries::entry` meets its contract: each answer is the first question's that its tests left. Assumes nothing.
 use mathlib.Core.Path.{◌≡◌, sym, ◌∙◌}
 use mathlib.Core.Bool.{true, false}
-use borrow.Author.Rules.{rules}
-use borrow.Author.Tests.{le-leb, lt-leb, not-true, not-false}
+use borrow.Author.Tests.{le-leb, lt-leb}
 use Rattle.films.specs.Questions.{rounds_in_range}
 use Rattle.films.specs.Catalogue.{entry_answer}
 use Rattle.films.proofs.entries.entry.Goals as goal

@@ -1,7 +1,6 @@
 -- `films::entries::head` meets its contract: each answer is the first question's that its tests left. Assumes nothing.
 use mathlib.Core.Path.{sym}
 use native.Mathlib.Omega.{arith}
-use borrow.Author.Rules.{rules}
 use Rattle.films.proofs.Answers.{head-short, head-empty, head-many, head-cut, head-whole}
 use Rattle.films.proofs.entries.head.Goals as goal
 

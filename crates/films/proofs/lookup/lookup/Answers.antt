@@ -1,8 +1,6 @@
-use Prim.Native.Nat.{◌-◌, ◌≤◌}
+use Prim.Native.Nat.{◌-◌}
 use mathlib.Core.Path.{◌≡◌, sym, ◌∙◌}
 use native.Mathlib.Omega.{arith}
-use borrow.Author.Rules.{rules}
-use Rattle.limits.specs.Bounds.{max_films}
 use Rattle.films.specs.Lookup.{seek, lookup_in}
 use Rattle.films.proofs.Laws.{seek-stops, seek-next, seek-end}
 use Rattle.films.proofs.lookup.lookup.Goals as goal

@@ -1,12 +1,9 @@
 -- `films::lookup::lookup` meets its contract. The invariant: the answer is that of the places from i on. The measure is the
 -- places left. Assumes nothing.
 use Prim.Native.Nat.{◌-◌, ◌≤◌}
-use mathlib.Core.Path.{◌≡◌, sym, ◌∙◌}
-use native.Mathlib.Omega.{arith}
-use borrow.Author.Rules.{rules}
+use mathlib.Core.Path.{◌≡◌}
 use Rattle.limits.specs.Bounds.{max_films}
-use Rattle.films.specs.Lookup.{seek, lookup_in}
-use Rattle.films.proofs.Laws.{seek-stops, seek-next, seek-end}
+use Rattle.films.specs.Lookup.{seek}
 use Rattle.films.proofs.lookup.lookup.Given as goal
 
 abbrev pub invariant-loop-i : goal.invariant-loop-i

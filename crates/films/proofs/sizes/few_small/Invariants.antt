@@ -1,12 +1,8 @@
 -- `films::sizes::few_small` meets its contract. The invariant: all sizes are within the bound exactly if those from i on are. The
 -- measure is the sizes left. Assumes nothing.
 use Prim.Native.Nat.{◌+◌, ◌*◌, ◌-◌, ◌≤◌}
-use mathlib.Core.Path.{◌≡◌, sym, ◌∙◌}
-use native.Mathlib.Omega.{arith}
-use borrow.Author.Rules.{rules}
-use borrow.Author.Tests.{not-true, not-false}
+use mathlib.Core.Path.{◌≡◌}
 use Rattle.films.specs.Questions.{small_sizes}
-use Rattle.films.proofs.Laws.{small-none, small-next, small-stop, small-end}
 use Rattle.films.proofs.sizes.few_small.Given as goal
 
 abbrev pub invariant-loop-i : goal.invariant-loop-i

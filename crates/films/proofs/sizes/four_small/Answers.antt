@@ -1,6 +1,5 @@
 -- `films::sizes::four_small` meets its contract: four bytes joined are 0 exactly if each is. Assumes nothing.
 use Rattle.films.proofs.Laws.{four-small}
-use borrow.Author.Rules.{rules}
 use Rattle.films.proofs.sizes.four_small.Goals as goal
 
 pub returns : goal.returns

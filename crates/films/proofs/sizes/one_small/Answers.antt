@@ -1,6 +1,5 @@
 -- `films::sizes::one_small` meets its contract: a size exceeds the bound exactly if its fourth byte is not 0. Assumes nothing.
 use Rattle.films.proofs.Laws.{one-small}
-use borrow.Author.Rules.{rules}
 use Rattle.films.proofs.sizes.one_small.Goals as goal
 
 pub returns : goal.returns

@@ -5,8 +5,6 @@ use mathlib.Core.List.{List}
 use mathlib.Core.Bool.{Bool}
 use Prim.Native.Nat.{ℕ}
 use native.Mathlib.Omega.{arith}
-use borrow.Author.Rules.{rules}
-use borrow.Author.Tests.{not-true, not-false}
 use Rattle.films.specs.Sizes.{size}
 use Rattle.films.specs.Questions.{films_in, rounds_before, sizes_in, sizes_at, small_sizes}
 use Rattle.films.proofs.Answers.{tail-short, tail-other, tail-cut, tail-large, tail_more, tail-ends}

@@ -2,7 +2,6 @@
 use mathlib.Core.Path.{sym}
 use native.Mathlib.Omega.{arith}
 use Rattle.reader.specs.ReaderLaws.{gives, step-refused, step-film, step_end}
-use borrow.Author.Rules.{rules}
 use Rattle.reader.proofs.cursor.next.Goals as goal
 
 pub returns-then-refusal-ne0 : goal.returns-then-refusal-ne0

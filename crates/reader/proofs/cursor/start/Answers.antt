@@ -1,6 +1,5 @@
 -- `reader::cursor::start` meets its contract. Assumes nothing.
 use Rattle.reader.specs.Reader.{start_of}
-use borrow.Author.Rules.{rules}
 use Rattle.reader.proofs.cursor.start.Goals as goal
 
 pub returns : goal.returns

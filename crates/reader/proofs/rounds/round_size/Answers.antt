@@ -3,7 +3,6 @@ use mathlib.Core.Path.{◌≡◌, ap, ◌∙◌}
 use Rattle.films.specs.declared.types.Catalogue.{Catalogue}
 use Rattle.reader.specs.Rounds.{round_size_in, round_size_of}
 use Rattle.reader.specs.RoundLaws.{round-size-of, round-answers}
-use borrow.Author.Rules.{rules}
 use Rattle.reader.proofs.rounds.round_size.Goals as goal
 
 pub returns : goal.returns

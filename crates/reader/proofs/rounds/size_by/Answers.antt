@@ -2,7 +2,6 @@
 use mathlib.Core.Path.{sym, ◌∙◌}
 use Rattle.reader.specs.RoundLaws.{round-refused, round_by}
 use Rattle.films.specs.declared.types.Lookup.TheVariants.{Found, Missing}
-use borrow.Author.Rules.{rules}
 use Rattle.reader.proofs.rounds.size_by.Goals as goal
 
 pub returns-then-refusal-ne0 : goal.returns-then-refusal-ne0

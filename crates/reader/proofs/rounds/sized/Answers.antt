@@ -4,7 +4,6 @@ use native.Mathlib.Omega.{arith}
 use borrow.Author.Tests.{lt-ltb, le-ltb, le-leb, lt-leb}
 use lib.ListN.{length}
 use Rattle.reader.specs.Rounds.{size_at}
-use borrow.Author.Rules.{rules}
 use Rattle.reader.proofs.rounds.sized.Goals as goal
 
 pub returns-then-n-i : goal.returns-then-n-i

@@ -1,7 +1,5 @@
-use Prim.Native.Nat.{◌-◌}
 use native.Mathlib.Omega.{arith}
-use borrow.Author.Rules.{rules}
-use Rattle.reader.specs.SummaryLaws.{Adding, adding-none, adding-small, adding-more, adding-all}
+use Rattle.reader.specs.SummaryLaws.{adding-none, adding-small, adding-more, adding-all}
 use Rattle.reader.proofs.summary.figures.Goals as goal
 
 pub loop-i-init : goal.loop-i-init

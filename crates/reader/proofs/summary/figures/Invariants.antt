@@ -1,9 +1,7 @@
 -- `reader::summary::figures` meets its contract. The invariant: the total and the largest size are what the first i sizes give,
 -- joined with those of the rest. The measure is the sizes left. Assumes nothing.
 use Prim.Native.Nat.{◌-◌}
-use native.Mathlib.Omega.{arith}
-use borrow.Author.Rules.{rules}
-use Rattle.reader.specs.SummaryLaws.{Adding, adding-none, adding-small, adding-more, adding-all}
+use Rattle.reader.specs.SummaryLaws.{Adding}
 use Rattle.reader.proofs.summary.figures.Given as goal
 
 abbrev pub invariant-loop-i : goal.invariant-loop-i

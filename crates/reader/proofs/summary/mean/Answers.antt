@@ -1,7 +1,6 @@
 -- `reader::summary::mean` meets its contract. Assumes nothing.
 use mathlib.Core.Path.{refl}
 use Rattle.reader.specs.Summary.{mean}
-use borrow.Author.Rules.{rules}
 use Rattle.reader.proofs.summary.mean.Goals as goal
 
 pub returns : goal.returns

@@ -15,7 +15,6 @@ use Rattle.reader.specs.Summary as spec
 use Rattle.reader.specs.Summary.{figures_of, summary_questions, summary_of, summary_refusal, summary_values}
 use Rattle.reader.specs.declared.types.Summary.{Summary}
 use Rattle.reader.specs.SummaryLaws.{summary-answers, summary-refused, summary-missing, summary-found}
-use borrow.Author.Rules.{rules}
 use Rattle.reader.proofs.summary.summary.Goals as goal
 
 -- the catalogue's verdict is the file's
