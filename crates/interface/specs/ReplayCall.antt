@@ -6,7 +6,7 @@ use Rattle.model.specs.declared.Booking.{Booking}
 use Rattle.model.specs.declared.Day.{Day}
 use Rattle.opening.specs.Contract.{asked}
 use Rattle.questions.specs.Given.{setting_at}
-use Rattle.replay.specs.Contract.{Result, lent_to, result}
+use Rattle.replay.specs.Contract.{Result, lent_to, result_of}
 use Rattle.interface.specs.declared.replay_call.Replayed.{Replayed}
 
 abbrev pub told : ℕ → ℕ → ℕ → Day → Replayed
@@ -25,4 +25,4 @@ pub record Replays (w : Result) (log : List ℕ) (z : Replayed) (list' : List Bo
 abbrev pub ReplaysOver : List ℕ → ℕ → ℕ → ℕ → List Booking → List ℕ → List ℕ → List ℕ → List ℕ → List ℕ → Replayed → List Booking → List ℕ → List ℕ → List ℕ → List ℕ → Type 0
 ReplaysOver file rounds disk memory list journal log o r h z list' log' o' r' h' =
     (fits : (bs : List Booking) → Dec (Fits (setting_at file (asked rounds disk memory)) bs))
-    → Replays (result (setting_at file (asked rounds disk memory)) (lent_to list (length list) o r h) fits journal (length log)) log z list' log' o' r' h'
+    → Replays (result_of (setting_at file (asked rounds disk memory)) (lent_to list (length list) o r h) fits journal (length log)) log z list' log' o' r' h'

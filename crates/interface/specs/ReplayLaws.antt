@@ -18,7 +18,7 @@ use Rattle.questions.specs.Given.{setting_at}
 use Rattle.replay.specs.Journal.{entries}
 use Rattle.replay.specs.PlainRun.{calls_of, entries_done}
 use Rattle.replay.specs.Contract as replay
-use Rattle.replay.specs.Contract.{Result, lent_to, result, result_by}
+use Rattle.replay.specs.Contract.{Result, lent_to, result_of, result_by}
 use Rattle.replay.specs.declared.Replayed as run
 use Rattle.replay.specs.declared.journal.Entry.{Entry}
 use Rattle.interface.specs.Records.{loaded, stored}
@@ -125,19 +125,19 @@ module _ (S : Setting) (list : List Booking) (o r h : List ℕ) (fits : (bs : Li
         helds' = refl;
       }
 
-  same-result : Same list (result S (over (loaded list)) fits journal room) (result S (over list) fits journal room)
+  same-result : Same list (result_of S (over (loaded list)) fits journal room) (result_of S (over list) fits journal room)
   unfolding open_questions sheet_long
   same-result = same_by (refusal (open_questions S (over list)))
 
 pub replay-over : (file : List ℕ) (rounds disk memory : ℕ) (list rows : List Booking) → rows ≡ loaded list → (journal log o r h : List ℕ) (out : run.Replayed) (z : Replayed) (list' : List Booking) (log' o' r' h' : List ℕ)
     → ((fits : (bs : List Booking) → Dec (Fits (setting_at file (opening.asked rounds disk memory)) bs))
-    → replay.Replays (result (setting_at file (opening.asked rounds disk memory)) (lent_to rows (length list) o r h) fits journal (length log)) log out log' o' r' h')
+    → replay.Replays (result_of (setting_at file (opening.asked rounds disk memory)) (lent_to rows (length list) o r h) fits journal (length log)) log out log' o' r' h')
     → z ≡ told out.refusal out.entries out.words out.day → list' ≡ stored max_bookings out.rows list
     → ReplaysOver file rounds disk memory list journal log o r h z list' log' o' r' h'
 replay-over file rounds disk memory list rows made journal log o r h out z list' log' o' r' h' given ez el fits =
     let S = setting_at file (opening.asked rounds disk memory) in
-    let w = result S (lent_to list (length list) o r h) fits journal (length log) in
-    let g = subst (λ (l : List Booking). replay.Replays (result S (lent_to l (length list) o r h) fits journal (length log)) log out log' o' r' h') made (given fits) in
+    let w = result_of S (lent_to list (length list) o r h) fits journal (length log) in
+    let g = subst (λ (l : List Booking). replay.Replays (result_of S (lent_to l (length list) o r h) fits journal (length log)) log out log' o' r' h') made (given fits) in
     let s = same-result S list o r h fits journal (length log) in
     record {
       answer =

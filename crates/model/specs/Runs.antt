@@ -1,13 +1,13 @@
 -- A list of calls, each on the day as the last one left it, by induction over `step`; and the accepted opening that it
 -- begins with. Assumes what `Accepted` says.
-use Rattle.std.specs.Prelude.{◌≡◌, refl, List, [], ◌∷◌, map, ℕ, zero, suc, ◌-◌, ◌≤◌, min, max, length}
+use Rattle.std.specs.Prelude.{◌≡◌, refl, List, [], ◌∷◌, map, ℕ, zero, suc, ◌≤◌, min, max, length}
 use Rattle.std.proofs.Common.{ap, ◌∙◌, arith}
 use Rattle.laws.specs.Questions.{Question, refusal, refusal-held}
 use Rattle.limits.specs.Bounds.{max_bookings}
 use Rattle.limits.specs.Refusals.{no_room, day_rounds, day_limits}
 use Rattle.model.specs.Day.{Setting, State}
-use Rattle.model.specs.Fit.{Fits, at}
-use Rattle.model.specs.Calls.{standing, rounds_in_range, limits_in_range, sheet_long, sound, open_questions, open_with, open_call, Call, call, answers, reports, after_all}
+use Rattle.model.specs.Fit.{Fits}
+use Rattle.model.specs.Calls.{rounds_in_range, limits_in_range, sheet_long, open_questions, open_with, open_call, Call, call, answers, reports, after_all}
 use Rattle.model.specs.PlainDay.{PlainDay, at_first, Arguments, plain_call, plain_answers, plain_reports, plain_after, ever_taken}
 use Rattle.model.specs.Loss.{Rising}
 use Rattle.model.specs.Expected.{arguments_of, all_written, expected}

@@ -2,7 +2,6 @@
 // Rust can lend them.
 #![tactic(auto)]
 
-
 // A record of the list of bookings. The desk chooses the name; cabs has one bit per cab.
 #[repr(C)]
 #[derive(Clone, Copy)]

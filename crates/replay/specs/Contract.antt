@@ -65,5 +65,5 @@ module _ (S : Setting) (lent : State) (fits : (bs : List Booking) → Dec (Fits 
   result_by (suc k) journal room = record { refusal = suc k; entries = 0; words = []; day = no_day; state = lent }
 
   -- by the number of the opening's first question that says no
-  abbrev pub result : List ℕ → ℕ → Result
-  result journal room = result_by (refusal (open_questions S lent)) journal room
+  abbrev pub result_of : List ℕ → ℕ → Result
+  result_of journal room = result_by (refusal (open_questions S lent)) journal room

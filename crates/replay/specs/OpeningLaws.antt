@@ -23,7 +23,7 @@ use Rattle.opening.specs.Contract.{asked, Opens}
 use Rattle.opening.specs.declared.Opened.{Opened}
 use Rattle.questions.specs.Given.{setting_at}
 use Rattle.replay.specs.Journal.{entries}
-use Rattle.replay.specs.Contract.{no_day, lent_to, Result, Replays, result_by, result}
+use Rattle.replay.specs.Contract.{no_day, lent_to, Result, Replays, result_by, result_of}
 use Rattle.replay.specs.DeskRun.{desk_run, run_result}
 use Rattle.replay.specs.RunLaws.{run-result}
 use Rattle.replay.specs.Pictured.{Pictured, pictured-first}
@@ -42,12 +42,12 @@ module _ (f : List ℕ) (T D M : ℕ) (rows : List Booking) (places : ℕ) (open
 
     -- refused
     pub refused-replays : (fits : (bs : List Booking) → Dec (Fits S bs)) (journal log : List ℕ) → (number ≡ 0 → ⊥)
-        → Replays (result S lent fits journal (length log)) log (record { refusal = number; entries = 0; words = 0; day = o.day; rows = rows }) log opens' reserves' helds'
+        → Replays (result_of S lent fits journal (length log)) log (record { refusal = number; entries = 0; words = 0; day = o.day; rows = rows }) log opens' reserves' helds'
     unfolding open_call
     refused-replays fits journal log some = go number number_is some
       where
         go : (k : ℕ) → refusal (open_questions S lent) ≡ k → (k ≡ 0 → ⊥)
-            → Replays (result S lent fits journal (length log)) log (record { refusal = k; entries = 0; words = 0; day = o.day; rows = rows }) log opens' reserves' helds'
+            → Replays (result_of S lent fits journal (length log)) log (record { refusal = k; entries = 0; words = 0; day = o.day; rows = rows }) log opens' reserves' helds'
         go zero e z = absurd (z refl)
         go (suc k) e z =
             rw e
@@ -93,11 +93,11 @@ module _ (f : List ℕ) (T D M : ℕ) (rows : List Booking) (places : ℕ) (open
       pub opened-replays : min places max_bookings ≤ length rows → (fits : (bs : List Booking) → Dec (Fits S bs)) (journal log : List ℕ)
           (r : Replayed) (log'' opens'' reserves'' helds'' : List ℕ)
           → Replays (run_result (setting_at f o.day) (desk_run (setting_at f o.day) (state_of o.day rows places opens' reserves' helds') (length log) (entries journal))) log r log'' opens'' reserves'' helds''
-          → Replays (result S lent fits journal (length log)) log r log'' opens'' reserves'' helds''
+          → Replays (result_of S lent fits journal (length log)) log r log'' opens'' reserves'' helds''
       opened-replays room fits journal log r log'' opens'' reserves'' helds'' w =
           let a = opened-accepted S lent loss-rising room call-opened in
           let e : run_result (setting_at f o.day) (desk_run (setting_at f o.day) (state_of o.day rows places opens' reserves' helds') (length log) (entries journal))
-          ≡ result S lent fits journal (length log) =
+          ≡ result_of S lent fits journal (length log) =
           ap₂ (λ (U : Setting) (t : State). run_result U (desk_run U t (length log) (entries journal))) opened-setting opened-state
           ∙ run-result S lent fits a (length log) (entries journal)
           ∙ ap (λ (n : ℕ). result_by S lent fits n journal (length log)) (sym (number_is ∙ none)) in

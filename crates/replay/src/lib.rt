@@ -14,7 +14,7 @@ ghost use Rattle.model.specs.declared.Booking.{Booking};
 ghost use Rattle.opening.specs.Contract.{asked};
 ghost use Rattle.questions.specs.Given.{setting_at};
 ghost use Rattle.replay.specs.Journal.{entries};
-ghost use Rattle.replay.specs.Contract.{lent_to, result, Replays};
+ghost use Rattle.replay.specs.Contract.{lent_to, result_of, Replays};
 ghost use Rattle.replay.specs.DeskRun.{desk_run, run_result};
 ghost use Rattle.replay.specs.Pictured.{Pictured};
 
@@ -39,7 +39,7 @@ pub struct Replayed {
 
 // The number of a refusal; 0 of any other answer.
 fn number_of(answer: Answer) -> u32
-    ensures* { λ r. ⌜ r ≡ number_of answer ⌝ }
+    ensures { result ≡ number_of answer }
 {
     match answer {
         Answer::Refused(number) => number,
@@ -65,7 +65,7 @@ fn run(
     helds: &mut [u64],
 ) -> Replayed
     requires { (c ≡ catalogue_of file.now) × Pictured (setting_at file.now day) (state_of day rows places opens.old reserves.old helds.old) }
-    ensures* { λ r. ⌜ Replays (run_result (setting_at file.now day) (desk_run (setting_at file.now day) (state_of day rows places opens.old reserves.old helds.old) (length log.old) (entries journal.now))) log.old r log.new opens.new reserves.new helds.new ⌝ }
+    ensures { Replays (run_result (setting_at file.now day) (desk_run (setting_at file.now day) (state_of day rows places opens.old reserves.old helds.old) (length log.old) (entries journal.now))) log.old result log.new opens.new reserves.new helds.new }
 {
     let count = journal.len() / ENTRY_WORDS;
     let mut today = day;
@@ -118,7 +118,7 @@ pub fn replay(
     reserves: &mut [u64],
     helds: &mut [u64],
 ) -> Replayed
-    ensures* { λ r. ⌜ ((fits : (bs : List Booking) → Dec (Fits (setting_at file.now (asked rounds disk memory)) bs)) → Replays (result (setting_at file.now (asked rounds disk memory)) (lent_to rows places opens.old reserves.old helds.old) fits journal.now (length log.old)) log.old r log.new opens.new reserves.new helds.new) ⌝ }
+    ensures { (fits : (bs : List Booking) → Dec (Fits (setting_at file.now (asked rounds disk memory)) bs)) → Replays (result_of (setting_at file.now (asked rounds disk memory)) (lent_to rows places opens.old reserves.old helds.old) fits journal.now (length log.old)) log.old result log.new opens.new reserves.new helds.new }
 {
     let before = Day {
         rounds: 0,

@@ -1,5 +1,4 @@
 -- `lines::feed` meets its contract: the definition's tests are the code's. Assumes nothing.
-use borrow.Author.Rules.{rules}
 use borrow.Author.Tests.{lt-ltb, le-ltb, eq-eqb, ne_eqb}
 use Rattle.lines.specs.Lines.{fed, appended}
 use Rattle.lines.proofs.feed.Goals as goal

@@ -1,9 +1,8 @@
-use Prim.Native.Nat.{◌+◌, ◌-◌, ◌≤◌}
-use mathlib.Core.Path.{◌≡◌, refl, sym, ap, ◌∙◌}
+use Prim.Native.Nat.{◌+◌}
+use mathlib.Core.Path.{refl, sym, ap, ◌∙◌}
 use native.Mathlib.Omega.{arith}
-use borrow.Author.Rules.{rules}
 use borrow.Author.Tests.{not-true, not-false}
-use lib.ListN.{length, drop}
+use lib.ListN.{drop}
 use Rattle.lines.specs.declared.Splitter.{Splitter}
 use Rattle.lines.specs.FeedingLaws.{goes_on, rest_on, line-next, rest-next, line-ended, line-over, feeds-none, feeds-line}
 use Rattle.lines.proofs.feed_line.Goals as goal
@@ -20,7 +19,7 @@ loop-next-preserved c =
     let a = c.args in
     let bytes = a.bytes.now in
     let test = c.loop-next-test.true in
-    let open' = c.if-not-splitter.true in (
+    let open' = not-true _ c.if-not-splitter.true in (
       omega arith,
       loop.invariant.1 ∙ line-next loop.splitter bytes loop.next test open' ∙ ap (λ (x : Splitter). goes_on x (drop (loop.next + 1) bytes)) (sym c.feed-splitter-in-loop-next.ensures),
       loop.invariant.2 ∙ rest-next loop.splitter bytes loop.next test open' ∙ ap (λ (x : Splitter). rest_on x (drop (loop.next + 1) bytes)) (sym c.feed-splitter-in-loop-next.ensures),
@@ -32,7 +31,7 @@ returns-else-not-splitter c =
     let fed = c in
     let else = fed in
     let a = else.args in
-    let ended = c.if-not-splitter.false in
+    let ended = not-false _ c.if-not-splitter.false in
     feeds-line a.s a.bytes.now a.from else.if-bytes-from.false fed.feed-splitter.result fed.feed-splitter.ensures loop.splitter loop.next loop.invariant.0 loop.invariant.1 loop.invariant.2 (line-ended loop.splitter a.bytes.now loop.next ended)
 
 pub returns-after-loop-next : goal.returns-after-loop-next

@@ -1,13 +1,9 @@
 -- `lines::feed_line` meets its contract. The invariant: from where the loop stands the rest of the line comes to what it came
 -- to where the loop began. The measure is what is left of the bytes. Assumes nothing.
-use Prim.Native.Nat.{◌+◌, ◌-◌, ◌≤◌}
-use mathlib.Core.Path.{◌≡◌, refl, sym, ap, ◌∙◌}
-use native.Mathlib.Omega.{arith}
-use borrow.Author.Rules.{rules}
-use borrow.Author.Tests.{not-true, not-false}
+use Prim.Native.Nat.{◌-◌, ◌≤◌}
+use mathlib.Core.Path.{◌≡◌}
 use lib.ListN.{length, drop}
-use Rattle.lines.specs.declared.Splitter.{Splitter}
-use Rattle.lines.specs.FeedingLaws.{goes_on, rest_on, line-next, rest-next, line-ended, line-over, feeds-none, feeds-line}
+use Rattle.lines.specs.FeedingLaws.{goes_on, rest_on}
 use Rattle.lines.proofs.feed_line.Given as goal
 
 abbrev pub invariant-loop-next : goal.invariant-loop-next

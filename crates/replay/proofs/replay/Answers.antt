@@ -13,10 +13,10 @@ returns-then-refusal-ne0 c fits =
     let counted = c in
     let opened = c in
     let a = opened.args in
-    let last = opened.«open».new.1.1.1.1 in
-    let is = opened.«open».ensures (verdict a.file.now) (films_of a.file.now) a.rows a.places in
-    refused-replays a.file.now a.rounds a.disk a.memory a.rows a.places a.opens.now a.reserves.now a.helds.now opened.«open».result
-    last.0 last.1.0 last.1.1.0 is counted.number_of_lem.result counted.number_of_lem.ensures fits a.journal.now a.log.now c.if-refusal-ne0.true
+    let last = opened.open-opened.new in
+    let is = opened.open-opened.ensures (verdict a.file.now) (films_of a.file.now) a.rows a.places in
+    refused-replays a.file.now a.rounds a.disk a.memory a.rows a.places a.opens.now a.reserves.now a.helds.now opened.open-opened.result
+    last.opens last.reserves last.helds is counted.number_of-refusal.result counted.number_of-refusal.ensures fits a.journal.now a.log.now c.if-refusal-ne0.true
 
 pub run-requires : goal.run-requires
 run-requires c =
@@ -26,18 +26,18 @@ run-requires c =
     let opened = test in
     let start = opened in
     let a = start.args in
-    let last = opened.«open».new.1.1.1.1 in
-    let is = opened.«open».ensures (verdict a.file.now) (films_of a.file.now) a.rows a.places in (
+    let last = opened.open-opened.new in
+    let is = opened.open-opened.ensures (verdict a.file.now) (films_of a.file.now) a.rows a.places in (
       listed.catalogue-c.ensures,
-      opened-pictured a.file.now a.rounds a.disk a.memory a.rows a.places a.opens.now a.reserves.now a.helds.now opened.«open».result
-          last.0 last.1.0 last.1.1.0 is counted.number_of_lem.result counted.number_of_lem.ensures test.if-refusal-ne0.false (omega (arith, start.well_formed)),
+      opened-pictured a.file.now a.rounds a.disk a.memory a.rows a.places a.opens.now a.reserves.now a.helds.now opened.open-opened.result
+          last.opens last.reserves last.helds is counted.number_of-refusal.result counted.number_of-refusal.ensures test.if-refusal-ne0.false (omega (arith, start.well_formed)),
     )
 
 pub shape_of-opens : goal.shape_of-opens
 shape_of-opens c =
     let ran = c in
     let opened = ran in
-    ran.run.auto.opens ∙ opened.«open».auto.1.1.1.1.0
+    ran.run.auto.opens ∙ opened.open-opened.auto.opens
 
 pub returns : goal.returns
 returns c fits =
@@ -47,9 +47,9 @@ returns c fits =
     let opened = test in
     let start = opened in
     let a = start.args in
-    let last = opened.«open».new.1.1.1.1 in
-    let after = ran.run.new.log in
-    let is = opened.«open».ensures (verdict a.file.now) (films_of a.file.now) a.rows a.places in
-    opened-replays a.file.now a.rounds a.disk a.memory a.rows a.places a.opens.now a.reserves.now a.helds.now opened.«open».result
-    last.0 last.1.0 last.1.1.0 is counted.number_of_lem.result counted.number_of_lem.ensures test.if-refusal-ne0.false (omega (arith, start.well_formed)) fits
-    a.journal.now a.log.now ran.run.result after.0 after.1.0 after.1.1.0 after.1.1.1.0 ran.run.ensures
+    let last = opened.open-opened.new in
+    let after = ran.run.new in
+    let is = opened.open-opened.ensures (verdict a.file.now) (films_of a.file.now) a.rows a.places in
+    opened-replays a.file.now a.rounds a.disk a.memory a.rows a.places a.opens.now a.reserves.now a.helds.now opened.open-opened.result
+    last.opens last.reserves last.helds is counted.number_of-refusal.result counted.number_of-refusal.ensures test.if-refusal-ne0.false (omega (arith, start.well_formed)) fits
+    a.journal.now a.log.now ran.run.result after.log after.opens after.reserves after.helds ran.run.ensures

@@ -33,10 +33,10 @@ returns-then-not-stepped c =
     let start = turn in
     let a = start.args in
     let s = rw called.entry_at-entry.ensures at called.step-stepped.ensures in
-    let last = called.step-stepped.new.log in
+    let last = called.step-stepped.new in
     going-full a.file.now a.day a.rows a.places a.journal.now a.log.now a.opens.now a.reserves.now a.helds.now _
     l.log l.opens l.reserves l.helds l.today l.list l.at l.i l.invariant
-    turn.loop-i-test.true called.step-stepped.result last.0 last.1.1.0 last.1.1.1.0 last.1.1.1.1.0 (s.kept (c.if-not-stepped.true))
+    turn.loop-i-test.true called.step-stepped.result last.log last.opens last.reserves last.helds (s.kept (not-true _ c.if-not-stepped.true))
 
 pub overflow_add-i : goal.overflow_add-i
 overflow_add-i c =
@@ -52,12 +52,12 @@ loop-i-preserved c =
     let start = turn in
     let a = start.args in
     let s = rw called.entry_at-entry.ensures at called.step-stepped.ensures in
-    let last = called.step-stepped.new.log in
-    let kept = called.step-stepped.auto.opens in
+    let last = called.step-stepped.new in
+    let kept = called.step-stepped.auto in
     going_next a.file.now a.day a.rows a.places a.journal.now a.log.now a.opens.now a.reserves.now a.helds.now _
     l.log l.opens l.reserves l.helds l.today l.list l.at l.i l.invariant
-    turn.loop-i-test.true called.step-stepped.result last.0 last.1.1.0 last.1.1.1.0 last.1.1.1.1.0 (s.took (c.if-not-stepped.false))
-    kept.0 kept.1.0 kept.1.1.0
+    turn.loop-i-test.true called.step-stepped.result last.log last.opens last.reserves last.helds (s.took (not-false _ c.if-not-stepped.false))
+    kept.opens kept.reserves kept.helds
 
 pub returns : goal.returns
 returns c =

@@ -1,14 +1,10 @@
 use mathlib.Core.Path.{◌≡◌, sym, ◌∙◌}
-use mathlib.Core.List.{List}
-use Prim.Native.Nat.{ℕ, ◌≤◌, ◌-◌, ◌+◌}
+use Prim.Native.Nat.{◌-◌, ◌+◌}
 use native.Mathlib.Omega.{arith}
-use borrow.Author.Rules.{rules}
-use lib.ListN.{length, drop, get_or, length-set}
-use Rattle.retrieval.specs.Carry.{carry}
+use lib.ListN.{get_or, length-set}
 use Rattle.retrieval.specs.Stored.{sends_at, length-sends_at, turn-carry}
 use Rattle.retrieval.specs.Sheet.{held_in}
 use Rattle.retrieval.specs.SheetLaws.{onto_from, onto_from-none, turn-read, turn-write, length-held_in, window-held}
-use Rattle.retrieval.proofs.add_held.Invariants.{Added}
 use Rattle.retrieval.proofs.add_held.Goals as goal
 
 pub loop-k-init : goal.loop-k-init

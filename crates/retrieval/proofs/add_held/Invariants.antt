@@ -1,15 +1,13 @@
 -- `retrieval::add_held` meets its contract. The invariant: what the film holds from its round k on has been added, and left
 -- is the carry of its rounds from k on. The measure is k. Assumes nothing.
-use mathlib.Core.Path.{◌≡◌, sym, ◌∙◌}
+use mathlib.Core.Path.{◌≡◌}
 use mathlib.Core.List.{List}
 use Prim.Native.Nat.{ℕ, ◌≤◌, ◌-◌, ◌+◌}
-use native.Mathlib.Omega.{arith}
-use borrow.Author.Rules.{rules}
-use lib.ListN.{length, drop, get_or, length-set}
+use lib.ListN.{length, drop}
 use Rattle.retrieval.specs.Carry.{carry}
-use Rattle.retrieval.specs.Stored.{sends_at, length-sends_at, turn-carry}
+use Rattle.retrieval.specs.Stored.{sends_at}
 use Rattle.retrieval.specs.Sheet.{held_in}
-use Rattle.retrieval.specs.SheetLaws.{onto_from, onto_from-none, turn-read, turn-write, length-held_in, window-held}
+use Rattle.retrieval.specs.SheetLaws.{onto_from}
 use Rattle.retrieval.proofs.add_held.Given as goal
 
 pub record Added (part₀ file : List ℕ) (at n p b a e : ℕ) (part : List ℕ) (left k : ℕ) : Type 0 where

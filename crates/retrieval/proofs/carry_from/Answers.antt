@@ -1,10 +1,7 @@
 use mathlib.Core.Path.{◌≡◌}
-use Prim.Native.Nat.{◌≤◌, ◌-◌, ◌+◌}
+use Prim.Native.Nat.{◌-◌, ◌+◌}
 use native.Mathlib.Omega.{arith}
-use borrow.Author.Rules.{rules}
-use lib.ListN.{drop}
-use Rattle.retrieval.specs.Carry.{carry}
-use Rattle.retrieval.specs.Stored.{sends_at, max_held, length-sends_at, drop_all, turn-held, turn-carry, held-bound}
+use Rattle.retrieval.specs.Stored.{sends_at, length-sends_at, drop_all, turn-held, turn-carry, held-bound}
 use Rattle.retrieval.proofs.carry_from.Goals as goal
 
 pub loop-k-init : goal.loop-k-init

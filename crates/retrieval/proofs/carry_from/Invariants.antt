@@ -1,12 +1,10 @@
 -- `retrieval::carry_from` meets its contract. The invariant: c is the carry of the rounds from k on. The measure is k.
 -- Assumes nothing.
 use mathlib.Core.Path.{◌≡◌}
-use Prim.Native.Nat.{◌≤◌, ◌-◌, ◌+◌}
-use native.Mathlib.Omega.{arith}
-use borrow.Author.Rules.{rules}
+use Prim.Native.Nat.{◌≤◌, ◌+◌}
 use lib.ListN.{drop}
 use Rattle.retrieval.specs.Carry.{carry}
-use Rattle.retrieval.specs.Stored.{sends_at, max_held, length-sends_at, drop_all, turn-held, turn-carry, held-bound}
+use Rattle.retrieval.specs.Stored.{sends_at, max_held}
 use Rattle.retrieval.proofs.carry_from.Given as goal
 
 abbrev pub invariant-loop-k : goal.invariant-loop-k

@@ -1,6 +1,5 @@
 -- `retrieval::exists` meets its contract: a schedule exists exactly if nothing is carried to before the first round.
 -- Assumes nothing.
-use borrow.Author.Rules.{rules}
 use Rattle.retrieval.specs.Minimality.{exists_by-test}
 use Rattle.retrieval.specs.Stored.{sends_at}
 use Rattle.retrieval.proofs.exists.Goals as goal

@@ -1,5 +1,4 @@
 -- `retrieval::larger` meets its contract: what a is more than b is added to b. Assumes nothing.
-use borrow.Author.Rules.{rules}
 use mathlib.Core.Path.{refl}
 use Prim.Native.Nat.{◌+◌, ◌-◌, ◌^◌}
 use native.Mathlib.Omega.{arith}

@@ -1,13 +1,12 @@
 use mathlib.Core.Path.{◌≡◌, sym, ap, ◌∙◌}
-use Prim.Native.Nat.{◌≤◌, ◌-◌}
+use Prim.Native.Nat.{◌-◌}
 use native.Mathlib.Omega.{arith}
-use borrow.Author.Rules.{rules}
 use lib.ListN.{drop}
 use Rattle.laws.specs.Sums.{largest}
 use Rattle.films.specs.Sizes.{sizes}
 use Rattle.retrieval.specs.Carry.{carry, profile}
 use Rattle.retrieval.specs.CarryLaws.{just_in_time-helds, prefetch-peak}
-use Rattle.retrieval.specs.Stored.{sends_at, max_held, length-sizes, sizes-at, size_small, drop-sizes, turn-held, turn-carry, turn-peak, held-bound}
+use Rattle.retrieval.specs.Stored.{sends_at, length-sizes, sizes-at, size_small, drop-sizes, turn-held, turn-carry, turn-peak, held-bound}
 use Rattle.retrieval.proofs.peak.Goals as goal
 
 pub loop-i-init : goal.loop-i-init

@@ -1,15 +1,12 @@
 -- `retrieval::peak` meets its contract. The invariant: c is the carry of the sizes from i on, and most is their peak; the
 -- pre-fetch holds no more. The measure is i. Assumes nothing.
-use mathlib.Core.Path.{◌≡◌, sym, ap, ◌∙◌}
-use Prim.Native.Nat.{◌≤◌, ◌-◌}
-use native.Mathlib.Omega.{arith}
-use borrow.Author.Rules.{rules}
+use mathlib.Core.Path.{◌≡◌}
+use Prim.Native.Nat.{◌≤◌}
 use lib.ListN.{drop}
 use Rattle.laws.specs.Sums.{largest}
 use Rattle.films.specs.Sizes.{sizes}
 use Rattle.retrieval.specs.Carry.{carry, profile}
-use Rattle.retrieval.specs.CarryLaws.{just_in_time-helds, prefetch-peak}
-use Rattle.retrieval.specs.Stored.{sends_at, max_held, length-sizes, sizes-at, size_small, drop-sizes, turn-held, turn-carry, turn-peak, held-bound}
+use Rattle.retrieval.specs.Stored.{max_held}
 use Rattle.retrieval.proofs.peak.Given as goal
 
 abbrev pub invariant-loop-i : goal.invariant-loop-i

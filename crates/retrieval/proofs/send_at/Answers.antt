@@ -2,7 +2,6 @@
 use mathlib.Core.Path.{sym, ◌∙◌}
 use Prim.Native.Nat.{◌-◌}
 use native.Mathlib.Omega.{arith}
-use borrow.Author.Rules.{rules}
 use Rattle.films.specs.Sizes.{sizes}
 use Rattle.retrieval.specs.Stored.{sizes-at, size_small, sends-before, sends-after}
 use Rattle.retrieval.proofs.send_at.Goals as goal

@@ -1,5 +1,4 @@
 -- `text::put_answer` meets its contract, by cases on the answer. Assumes nothing.
-use borrow.Author.Rules.{rules}
 use Rattle.text.specs.Text.{answer_fields}
 use Rattle.text.proofs.put_answer.Goals as goal
 

@@ -1,5 +1,4 @@
 -- `text::put_end` meets its contract: one store. Assumes nothing.
-use borrow.Author.Rules.{rules}
 use Rattle.text.proofs.Writing.{wrote_one}
 use Rattle.text.proofs.put_end.Goals as goal
 

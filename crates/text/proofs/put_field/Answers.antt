@@ -1,7 +1,6 @@
 -- `text::put_field` meets its contract: a store, then the number. Assumes nothing.
 use mathlib.Core.Path.{◌∙◌}
 use native.Mathlib.Omega.{arith}
-use borrow.Author.Rules.{rules}
 use lib.ListN.{length-set}
 use Rattle.commands.specs.Bytes.{space}
 use Rattle.text.proofs.Writing.{wrote_one, then-wrote}
@@ -11,7 +10,7 @@ pub put_decimal-requires : goal.put_decimal-requires
 put_decimal-requires c = simp length-set (omega arith)
 
 pub shape_of-out : goal.shape_of-out
-shape_of-out c = c.put_decimal.auto.0 ∙ simp length-set
+shape_of-out c = c.put_decimal.auto.out ∙ simp length-set
 
 pub returns : goal.returns
 returns c =

@@ -2,7 +2,6 @@
 use Prim.Native.Nat.{◌+◌, ◌≤◌}
 use mathlib.Core.List.{◌++◌}
 use native.Mathlib.Omega.{arith}
-use borrow.Author.Rules.{rules}
 use lib.ListN.{length}
 use Rattle.text.specs.Text.{decimal, field}
 use Rattle.text.specs.Digits.{decimal-length, field-length}
@@ -13,7 +12,7 @@ pub put_field-read-requires : goal.put_field-read-requires
 put_field-read-requires c =
     let line = c.args.line in
     let name = c.put_decimal-name in
-    omega (arith, name.ensures.place, name.auto.0, decimal-length line.name)
+    omega (arith, name.ensures.place, name.auto.out, decimal-length line.name)
 
 pub put_field-send-requires : goal.put_field-send-requires
 put_field-send-requires c =
@@ -23,9 +22,9 @@ put_field-send-requires c =
     omega (
       arith,
       name.ensures.place,
-      name.auto.0,
+      name.auto.out,
       read.ensures.place,
-      read.auto.0,
+      read.auto.out,
       decimal-length line.name,
       field-length line.read,
     )
@@ -39,11 +38,11 @@ put_field-requires c =
     omega (
       arith,
       name.ensures.place,
-      name.auto.0,
+      name.auto.out,
       read.ensures.place,
-      read.auto.0,
+      read.auto.out,
       send.ensures.place,
-      send.auto.0,
+      send.auto.out,
       decimal-length line.name,
       field-length line.read,
       field-length line.send,

@@ -1,7 +1,6 @@
 -- `text::put_three` meets its contract: text after text. Assumes nothing.
 use mathlib.Core.List.{◌++◌}
 use native.Mathlib.Omega.{arith}
-use borrow.Author.Rules.{rules}
 use Rattle.text.specs.Text.{field}
 use Rattle.text.proofs.Writing.{then-wrote, field_end}
 use Rattle.text.proofs.put_three.Goals as goal
@@ -12,7 +11,7 @@ put_field-requires c =
     omega (
       arith,
       c.put_two-next.ensures.place,
-      c.put_two-next.auto.0,
+      c.put_two-next.auto.out,
       field_end args.word.now args.a args.at,
       field_end (args.word.now ++ field args.a) args.b args.at,
     )

@@ -1,10 +1,7 @@
-use Prim.Native.Nat.{◌-◌, ◌≤◌}
-use mathlib.Core.Path.{◌≡◌, refl}
+use mathlib.Core.Path.{refl}
 use native.Mathlib.Omega.{arith}
-use borrow.Author.Rules.{rules}
-use lib.ListN.{length, take, length-take, length-set}
+use lib.ListN.{take, length-take, length-set}
 use lib.Seq.{take_all}
-use Rattle.text.specs.Write.{Wrote}
 use Rattle.text.proofs.Writing.{wrote_none, wrote-inside, word_more}
 use Rattle.text.proofs.put_word.Goals as goal
 

@@ -1,13 +1,9 @@
 -- `text::put_word` meets its contract. The invariant: the first i bytes of the word are written. The measure is what is
 -- left of the word. Assumes nothing.
 use Prim.Native.Nat.{◌-◌, ◌≤◌}
-use mathlib.Core.Path.{◌≡◌, refl}
-use native.Mathlib.Omega.{arith}
-use borrow.Author.Rules.{rules}
-use lib.ListN.{length, take, length-take, length-set}
-use lib.Seq.{take_all}
+use mathlib.Core.Path.{◌≡◌}
+use lib.ListN.{length, take}
 use Rattle.text.specs.Write.{Wrote}
-use Rattle.text.proofs.Writing.{wrote_none, wrote-inside, word_more}
 use Rattle.text.proofs.put_word.Given as goal
 
 abbrev pub invariant-loop-i : goal.invariant-loop-i

@@ -1,6 +1,8 @@
 -- `text::write_answer` meets its contract, by cases on the buffer's room. Assumes nothing.
+use Prim.Native.Nat.{◌+◌, ◌≤◌}
 use native.Mathlib.Omega.{arith}
-use borrow.Author.Rules.{rules}
+use lib.ListN.{length}
+use Rattle.text.specs.Write.{max_text}
 use Rattle.text.specs.Text.{answer_text}
 use Rattle.text.specs.Digits.{answer-fields}
 use Rattle.text.proofs.Writing.{then-wrote, no_room, line_wrote}
@@ -9,19 +11,23 @@ use Rattle.text.proofs.write_answer.Goals as goal
 pub returns-then-out-at : goal.returns-then-out-at
 returns-then-out-at c =
     let args = c.args in
-    no_room args.out.now args.at (answer_text args.name args.round args.answer) (omega arith)
+    let none = no_room args.out.now args.at (answer_text args.name args.round args.answer) (omega arith) in
+    record { value = none.0; out_after = none.1 }
 
 pub returns-then-out-at-lt-MAX_TEXT : goal.returns-then-out-at-lt-MAX_TEXT
 returns-then-out-at-lt-MAX_TEXT c =
     let args = c.args in
-    no_room args.out.now args.at (answer_text args.name args.round args.answer) (omega arith)
+    let none = no_room args.out.now args.at (answer_text args.name args.round args.answer) (omega arith) in
+    record { value = none.0; out_after = none.1 }
 
 pub put_end-requires : goal.put_end-requires
 put_end-requires c =
     let args = c.args in
-    omega (arith, c.put_answer-next.ensures.place, c.put_answer-next.auto.0, answer-fields args.name args.round args.answer)
+    omega (arith, c.put_answer-next.ensures.place, c.put_answer-next.auto.out, answer-fields args.name args.round args.answer)
 
 pub returns : goal.returns
 returns c =
     let args = c.args in
-    line_wrote (omega arith) (then-wrote c.put_answer-next.ensures c.put_end.ensures (omega (arith, answer-fields args.name args.round args.answer)))
+    let room : args.at + max_text ≤ length args.out.now = omega arith in
+    let all = line_wrote room (then-wrote c.put_answer-next.ensures c.put_end.ensures (omega (arith, answer-fields args.name args.round args.answer))) in
+    record { value = all.0; out_after = all.1 }

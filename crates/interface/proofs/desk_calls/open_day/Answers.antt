@@ -7,7 +7,7 @@ use Rattle.interface.proofs.desk_calls.open_day.Goals as goal
 pub returns : goal.returns
 returns c verdict films rows places =
     let opened = c in
-    let g = opened.«open».ensures verdict films rows places in
+    let g = opened.open-done.ensures verdict films rows places in
     record {
       reply = c.reply_of.ensures ∙ ap₂ reply_of g.answer g.day;
       opens = g.opens;

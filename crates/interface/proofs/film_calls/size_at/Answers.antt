@@ -5,4 +5,4 @@ use borrow.Author.Rules.{rules}
 use Rattle.interface.proofs.film_calls.size_at.Goals as goal
 
 pub returns : goal.returns
-returns c = c.type_size.ensures ∙ ap size_of c.round_size.ensures.0
+returns c = c.size_of.ensures ∙ ap size_of c.round_size.ensures.answer

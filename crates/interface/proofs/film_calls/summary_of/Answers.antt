@@ -5,4 +5,4 @@ use borrow.Author.Rules.{rules}
 use Rattle.interface.proofs.film_calls.summary_of.Goals as goal
 
 pub returns : goal.returns
-returns c = c.figures_of.ensures ∙ ap figures_of c.summary.ensures.0
+returns c = c.figures_of.ensures ∙ ap figures_of c.summary.ensures.answer

@@ -16,8 +16,9 @@ returns c =
     let a = c.args in
     let s = a.file.now in
     let sent = sends a.prefetch (sizes_of (films_of s) a.film) in
-    let z = c.least_reserve in (
-      c.reserve_of.ensures ∙ ap reserve_of z.ensures.0,
-      accepted-bytes (Least sent a.cap) (refusal (reserve_questions s a.film a.prefetch a.cap)) (least_reserve sent a.cap) z.result
-          c.reserve_of.result z.ensures.0 c.reserve_of.ensures z.ensures.1.0,
-    )
+    let z = c.least_reserve in
+    record {
+      answer = c.reserve_of.ensures ∙ ap reserve_of z.ensures.answer;
+      least = accepted-bytes (Least sent a.cap) (refusal (reserve_questions s a.film a.prefetch a.cap)) (least_reserve sent a.cap) z.result
+          c.reserve_of.result z.ensures.answer c.reserve_of.ensures z.ensures.least;
+    }

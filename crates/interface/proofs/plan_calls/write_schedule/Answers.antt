@@ -5,4 +5,4 @@ use borrow.Author.Rules.{rules}
 use Rattle.interface.proofs.plan_calls.write_schedule.Goals as goal
 
 pub returns : goal.returns
-returns c = (c.number_of_lem.ensures ∙ ap scheduled_number c.schedule.ensures.0, c.schedule.ensures.1.0)
+returns c = record { answer = c.number_of.ensures ∙ ap scheduled_number c.schedule.ensures.answer; written = c.schedule.ensures.places }

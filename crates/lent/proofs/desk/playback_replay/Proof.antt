@@ -46,7 +46,7 @@ use Rattle.model.specs.Fit.{Fits}
 use Rattle.model.specs.declared.Booking.{Booking}
 use Rattle.opening.specs.Contract.{asked}
 use Rattle.questions.specs.Given.{setting_at}
-use Rattle.replay.specs.Contract.{Replays, lent_to, result}
+use Rattle.replay.specs.Contract.{Replays, lent_to, result_of}
 use Rattle.replay.specs.declared.Replayed as run_of
 use Rattle.replay.specs.contracts.Replayed as O
 use Rattle.replay.proofs.Replayed.TheLaws as O'
@@ -170,7 +170,7 @@ module _ (κf κe κj κg κo κr κh : Lft) (qf qe qj qg qo qr qh : Share) (bf 
   abbrev Ensured : List Booking → run_of.Replayed → List ℕ → List ℕ → List ℕ → List ℕ → Type 0
   Ensured rows z gs os rs hs =
       (fits : (bs : List Booking) → Dec (Fits (setting_at yf (asked nt nd nm)) bs))
-      → Replays (result (setting_at yf (asked nt nd nm)) (lent_to rows (length ye) yo yr yh) fits yj (length yg)) yg z gs os rs hs
+      → Replays (result_of (setting_at yf (asked nt nd nm)) (lent_to rows (length ye) yo yr yh) fits yj (length yg)) yg z gs os rs hs
 
   says_all : (rows : List Booking) (z : run_of.Replayed) (r : Replayed) (zs : List Booking) (gs os rs hs : List ℕ) → r ≡ told z.refusal z.entries z.words z.day → rows ≡ loaded ye → Ensured rows z gs os rs hs → zs ≡ stored max_bookings z.rows ye → ReplaysOver yf nt nd nm ye yj yg yo yr yh r zs gs os rs hs
   says_all rows z r zs gs os rs hs e₄ e₁ e₂ e₃ = replay-over yf nt nd nm ye rows e₁ yj yg yo yr yh z r zs gs os rs hs e₂ e₄ e₃

@@ -1,14 +1,11 @@
 -- `planning::reserves::largest` meets its contract. The invariant: most is the largest size from i on. The measure is i.
 -- Assumes nothing.
-use mathlib.Core.Path.{◌≡◌, sym, ◌∙◌}
-use Prim.Native.Nat.{◌≤◌, ◌-◌}
-use native.Mathlib.Omega.{arith}
-use borrow.Author.Rules.{rules}
+use mathlib.Core.Path.{◌≡◌}
+use Prim.Native.Nat.{◌≤◌}
 use lib.ListN.{drop}
 use Rattle.limits.specs.Bounds.{max_size}
 use Rattle.laws.specs.Sums.{largest}
 use Rattle.films.specs.Sizes.{sizes}
-use Rattle.retrieval.specs.Stored.{length-sizes, sizes-at, size_small, drop-sizes, turn-largest}
 use Rattle.planning.proofs.reserves.largest.Given as goal
 
 abbrev pub invariant-loop-i : goal.invariant-loop-i

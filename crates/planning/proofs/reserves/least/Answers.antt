@@ -2,7 +2,6 @@
 -- one least reserve. Assumes nothing.
 use Prim.Native.Nat.{◌≤◌}
 use native.Mathlib.Omega.{arith}
-use borrow.Author.Rules.{rules}
 use Rattle.limits.specs.Refusals.{prefetch_bound, cap_bound}
 use Rattle.laws.specs.Questions.{refusal}
 use Rattle.laws.specs.Sums.{largest}

@@ -1,8 +1,6 @@
 use mathlib.Core.Path.{◌≡◌}
-use Prim.Native.Nat.{ℕ, ◌≤◌, ◌+◌, ◌-◌, ◌/◌}
+use Prim.Native.Nat.{◌+◌, ◌-◌, ◌/◌}
 use native.Mathlib.Omega.{arith}
-use borrow.Author.Rules.{rules}
-use Rattle.retrieval.specs.LeastReserve.{Serves}
 use Rattle.retrieval.specs.ReserveLaws.{serves_by-yes, serves_by-no, serves-above}
 use Rattle.retrieval.specs.Stored.{sends_at}
 use Rattle.planning.proofs.reserves.search.Goals as goal

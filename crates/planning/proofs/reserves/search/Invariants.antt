@@ -1,11 +1,7 @@
 -- `planning::reserves::search` meets its contract. The invariant: hi serves, and whatever serves is at least lo. The measure
 -- is hi - lo. Assumes nothing.
-use mathlib.Core.Path.{◌≡◌}
-use Prim.Native.Nat.{ℕ, ◌≤◌, ◌+◌, ◌-◌, ◌/◌}
-use native.Mathlib.Omega.{arith}
-use borrow.Author.Rules.{rules}
+use Prim.Native.Nat.{ℕ, ◌≤◌, ◌-◌}
 use Rattle.retrieval.specs.LeastReserve.{Serves}
-use Rattle.retrieval.specs.ReserveLaws.{serves_by-yes, serves_by-no, serves-above}
 use Rattle.retrieval.specs.Stored.{sends_at}
 use Rattle.planning.proofs.reserves.search.Given as goal
 

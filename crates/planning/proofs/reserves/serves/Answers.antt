@@ -2,13 +2,12 @@ use mathlib.Core.Path.{◌≡◌, sym, ◌∙◌}
 use Prim.Native.Nat.{◌≤◌, ◌-◌}
 use native.Mathlib.Nat.{mul-le-mul}
 use native.Mathlib.Omega.{arith}
-use borrow.Author.Rules.{rules}
 use lib.ListN.{drop}
 use Rattle.laws.specs.Sums.{largest}
 use Rattle.films.specs.Sizes.{sizes}
 use Rattle.retrieval.specs.Carry.{carry, profile}
 use Rattle.retrieval.specs.ReserveLaws.{serves_by-over, serves_by-test}
-use Rattle.retrieval.specs.Stored.{max_held, length-sizes, sizes-at, size_small, drop-sizes, turn-held, turn-carry, turn-peak, held-bound}
+use Rattle.retrieval.specs.Stored.{length-sizes, sizes-at, size_small, drop-sizes, turn-held, turn-carry, turn-peak, held-bound}
 use Rattle.planning.proofs.reserves.serves.Goals as goal
 
 pub loop-i-init : goal.loop-i-init

@@ -1,16 +1,12 @@
 -- `planning::reserves::serves` meets its contract. The invariant: c is the carry of the sizes from i on, and their peak is at
 -- most cap. The measure is i. Assumes nothing.
-use mathlib.Core.Path.{◌≡◌, sym, ◌∙◌}
-use Prim.Native.Nat.{◌≤◌, ◌-◌}
-use native.Mathlib.Nat.{mul-le-mul}
-use native.Mathlib.Omega.{arith}
-use borrow.Author.Rules.{rules}
+use mathlib.Core.Path.{◌≡◌}
+use Prim.Native.Nat.{◌≤◌}
 use lib.ListN.{drop}
 use Rattle.laws.specs.Sums.{largest}
 use Rattle.films.specs.Sizes.{sizes}
 use Rattle.retrieval.specs.Carry.{carry, profile}
-use Rattle.retrieval.specs.ReserveLaws.{serves_by-over, serves_by-test}
-use Rattle.retrieval.specs.Stored.{max_held, length-sizes, sizes-at, size_small, drop-sizes, turn-held, turn-carry, turn-peak, held-bound}
+use Rattle.retrieval.specs.Stored.{max_held}
 use Rattle.planning.proofs.reserves.serves.Given as goal
 
 abbrev pub invariant-loop-i : goal.invariant-loop-i

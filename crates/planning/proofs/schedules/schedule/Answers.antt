@@ -1,6 +1,5 @@
 -- `planning::schedules::schedule` meets its contract: the file's questions, the film's, and the rest by `plan`.
 -- Assumes nothing.
-use borrow.Author.Rules.{rules}
 use Rattle.planning.specs.FileAnswers.{made-verdict, made-accepted, made_found, made-missing, schedule-file, schedule-missing, schedule-found}
 use Rattle.planning.proofs.schedules.schedule.Goals as goal
 

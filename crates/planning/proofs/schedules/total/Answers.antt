@@ -1,9 +1,7 @@
 use mathlib.Core.Path.{◌≡◌, sym, ◌∙◌}
-use Prim.Native.Nat.{◌≤◌, ◌*◌, ◌-◌}
+use Prim.Native.Nat.{◌-◌}
 use native.Mathlib.Omega.{arith}
-use borrow.Author.Rules.{rules}
 use lib.ListN.{drop}
-use Rattle.limits.specs.Bounds.{max_size}
 use Rattle.laws.specs.Sums.{sum}
 use Rattle.films.specs.Sizes.{sizes}
 use Rattle.retrieval.specs.Stored.{length-sizes, sizes-at, size_small, drop-sizes}

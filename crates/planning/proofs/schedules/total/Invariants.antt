@@ -1,15 +1,11 @@
 -- `planning::schedules::total` meets its contract. The invariant: bytes is the sum of the sizes from i on. The measure is i.
 -- Assumes nothing.
-use mathlib.Core.Path.{◌≡◌, sym, ◌∙◌}
+use mathlib.Core.Path.{◌≡◌}
 use Prim.Native.Nat.{◌≤◌, ◌*◌, ◌-◌}
-use native.Mathlib.Omega.{arith}
-use borrow.Author.Rules.{rules}
 use lib.ListN.{drop}
 use Rattle.limits.specs.Bounds.{max_size}
 use Rattle.laws.specs.Sums.{sum}
 use Rattle.films.specs.Sizes.{sizes}
-use Rattle.retrieval.specs.Stored.{length-sizes, sizes-at, size_small, drop-sizes}
-use Rattle.planning.specs.Written.{turn-sum}
 use Rattle.planning.proofs.schedules.total.Given as goal
 
 abbrev pub invariant-loop-i : goal.invariant-loop-i

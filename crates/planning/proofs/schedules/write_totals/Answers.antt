@@ -1,18 +1,16 @@
 use mathlib.Core.Path.{◌≡◌, sym, ◌∙◌}
-use mathlib.Core.List.{List, ◌∷◌}
-use Prim.Native.Nat.{ℕ, ◌≤◌, ◌<◌, ◌-◌, ◌+◌, max}
+use mathlib.Core.List.{◌∷◌}
+use Prim.Native.Nat.{◌≤◌, ◌<◌, ◌-◌, ◌+◌}
 use native.Mathlib.Omega.{arith}
-use borrow.Author.Rules.{rules}
 use lib.ListN.{length, get_or, length-set}
 use Rattle.laws.specs.Sums.{sum}
 use Rattle.films.specs.Sizes.{sizes}
 use Rattle.retrieval.specs.Schedule.{totals}
 use Rattle.retrieval.specs.JustInTime.{just_in_time}
 use Rattle.retrieval.specs.CarryLaws.{length-just_in_time}
-use Rattle.retrieval.specs.Stored.{sends_at, max_held, length-sends_at}
+use Rattle.retrieval.specs.Stored.{sends_at, length-sends_at}
 use Rattle.retrieval.specs.SheetLaws.{onto_from, onto_from-none, turn-write, written}
 use Rattle.planning.specs.Written.{sum-sends, totals-sum, turn-sent, start-rule, turn-rule}
-use Rattle.planning.proofs.schedules.write_totals.Invariants.{Going}
 use Rattle.planning.proofs.schedules.write_totals.Goals as goal
 
 pub loop-k-init : goal.loop-k-init

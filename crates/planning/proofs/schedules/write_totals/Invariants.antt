@@ -1,19 +1,13 @@
 -- `planning::schedules::write_totals` meets its contract. The invariant: the totals are written from place k on, sent is C(k-1),
 -- and the larger of it and due - b is A(k-1); both are totals of the film. The measure is k. Assumes nothing.
-use mathlib.Core.Path.{◌≡◌, sym, ◌∙◌}
+use mathlib.Core.Path.{◌≡◌}
 use mathlib.Core.List.{List, ◌∷◌}
 use Prim.Native.Nat.{ℕ, ◌≤◌, ◌<◌, ◌-◌, ◌+◌, max}
-use native.Mathlib.Omega.{arith}
-use borrow.Author.Rules.{rules}
-use lib.ListN.{length, get_or, length-set}
-use Rattle.laws.specs.Sums.{sum}
-use Rattle.films.specs.Sizes.{sizes}
+use lib.ListN.{length, get_or}
 use Rattle.retrieval.specs.Schedule.{totals}
 use Rattle.retrieval.specs.JustInTime.{just_in_time}
-use Rattle.retrieval.specs.CarryLaws.{length-just_in_time}
-use Rattle.retrieval.specs.Stored.{sends_at, max_held, length-sends_at}
-use Rattle.retrieval.specs.SheetLaws.{onto_from, onto_from-none, turn-write, written}
-use Rattle.planning.specs.Written.{sum-sends, totals-sum, turn-sent, start-rule, turn-rule}
+use Rattle.retrieval.specs.Stored.{sends_at, max_held}
+use Rattle.retrieval.specs.SheetLaws.{onto_from}
 use Rattle.planning.proofs.schedules.write_totals.Given as goal
 
 pub record Going (out₀ file : List ℕ) (at n p b : ℕ) (out : List ℕ) (sent due k : ℕ) : Type 0 where

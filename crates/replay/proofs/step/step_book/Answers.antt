@@ -12,7 +12,7 @@ returns c =
     let called = wrote in
     let start = called in
     let a = start.args in
-    let after = called.book_standing-booked.new.opens in
+    let after = called.book_standing-booked.new in
     booked-steps (setting_at a.file.now a.day) (state_of a.day a.rows a.places a.opens.now a.reserves.now a.helds.now) a.q
-    a.log.now a.at _ wrote.write_answer-next.new.log after.0 after.1.0 after.1.1.0 called.book_standing-booked.result.answer start.requires.0 refl
+    a.log.now a.at _ wrote.write_answer-next.new.log after.opens after.reserves after.helds called.book_standing-booked.result.answer start.requires.0 refl
     called.book_standing-booked.ensures wrote.write_answer-next.ensures

@@ -12,7 +12,7 @@ returns c =
     let called = wrote in
     let start = called in
     let a = start.args in
-    let after = called.drop_standing-dropped.new.opens in
+    let after = called.drop_standing-dropped.new in
     dropped-steps (setting_at a.file.now a.day) (state_of a.day a.rows a.places a.opens.now a.reserves.now a.helds.now) a.name
-    a.log.now a.at _ wrote.write_answer-next.new.log after.0 after.1.0 after.1.1.0 called.drop_standing-dropped.result start.requires.0 refl refl refl
+    a.log.now a.at _ wrote.write_answer-next.new.log after.opens after.reserves after.helds called.drop_standing-dropped.result start.requires.0 refl refl refl
     called.drop_standing-dropped.ensures wrote.write_answer-next.ensures

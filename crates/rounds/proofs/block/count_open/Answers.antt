@@ -1,7 +1,5 @@
 use mathlib.Core.Path.{◌≡◌, sym, ap, ◌∙◌}
-use Prim.Native.Nat.{◌-◌, ◌≤◌}
 use native.Mathlib.Omega.{arith}
-use borrow.Author.Rules.{rules}
 use mathlib.Core.List.{[], ◌∷◌}
 use lib.ListN.{length, take, get_or, length-append}
 use Rattle.load.specs.Stream.{no_stream}
@@ -21,7 +19,7 @@ loop-i-preserved c =
     let x = get_or a.xs l.i no_stream in
     let done = active a.from a.to (take l.i a.xs) in
     elim c.if-open_between.branch [
-      then-open_between w ↦
+      | then-open_between w ↦
           let e = active-open a.from a.to a.xs l.i (omega arith) (sym asked.ensures ∙ w.if-open_between.true) in
           (omega arith, omega arith, omega (arith, ap length e, length-append done (x ∷ [])))
       | else-open_between w ↦

@@ -1,15 +1,9 @@
 -- `rounds::block::count_open` meets its contract. The invariant: n of the first i are open in these rounds. The measure is what is left of
 -- the bookings. Assumes nothing.
-use mathlib.Core.Path.{◌≡◌, sym, ap, ◌∙◌}
+use mathlib.Core.Path.{◌≡◌}
 use Prim.Native.Nat.{◌-◌, ◌≤◌}
-use native.Mathlib.Omega.{arith}
-use borrow.Author.Rules.{rules}
-use mathlib.Core.Logic.{⊎_elim}
-use mathlib.Core.List.{[], ◌∷◌}
-use lib.ListN.{length, take, get_or, length-append}
-use Rattle.load.specs.Stream.{no_stream}
+use lib.ListN.{length, take}
 use Rattle.rounds.specs.Rows.{active}
-use Rattle.rounds.specs.RowLaws.{active-open, active-shut}
 use Rattle.rounds.proofs.block.count_open.Given as goal
 
 abbrev pub invariant-loop-i : goal.invariant-loop-i

@@ -3,7 +3,6 @@ use mathlib.Core.Path.{refl}
 use native.Mathlib.Omega.{arith}
 use lib.ListN.{length, take}
 use Rattle.rounds.specs.RowLaws.{active-bound, rows_fit, block_of}
-use borrow.Author.Rules.{rules}
 use Rattle.rounds.proofs.block.look.Goals as goal
 
 pub count_open-most-requires : goal.count_open-most-requires

@@ -1,5 +1,4 @@
 -- `rounds::block::open_between` meets its contract. Assumes nothing.
-use borrow.Author.Rules.{rules}
 use Rattle.rounds.specs.RowLaws.{between-late, between-from}
 use Rattle.rounds.proofs.block.open_between.Goals as goal
 

@@ -1,7 +1,6 @@
 -- `rounds::block::write_head` meets its contract. Assumes nothing.
 use Prim.Native.Nat.{◌+◌}
 use native.Mathlib.Omega.{arith}
-use borrow.Author.Rules.{rules}
 use lib.ListN.{length-set}
 use Rattle.rounds.specs.TableLaws.{five-written}
 use Rattle.rounds.proofs.block.write_head.Goals as goal

@@ -1,10 +1,8 @@
-use mathlib.Core.Path.{◌≡◌, refl, ◌∙◌}
-use Prim.Native.Nat.{◌+◌, ◌-◌, ◌≤◌}
+use mathlib.Core.Path.{refl, ◌∙◌}
+use Prim.Native.Nat.{◌+◌, ◌-◌}
 use native.Mathlib.Omega.{arith}
-use borrow.Author.Rules.{rules}
-use lib.ListN.{length, drop, length-set}
-use Rattle.model.specs.Calls.{per_round}
-use Rattle.load.specs.Stream.{holds_in, carry_from}
+use lib.ListN.{length, length-set}
+use Rattle.load.specs.Stream.{holds_in}
 use Rattle.rounds.specs.CarryLaws.{carry-round}
 use Rattle.rounds.specs.TableLaws.{fill_none, fill-next, fill-all}
 use Rattle.rounds.proofs.block.write_helds.Goals as goal

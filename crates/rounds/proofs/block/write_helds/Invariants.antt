@@ -1,14 +1,10 @@
 -- `rounds::block::write_helds` meets its contract. The invariant: the words from k on are written, and c is the carry of the rounds from
 -- `from` + k on. The measure is k. Assumes nothing.
-use mathlib.Core.Path.{◌≡◌, refl, ◌∙◌}
+use mathlib.Core.Path.{◌≡◌}
 use Prim.Native.Nat.{◌+◌, ◌-◌, ◌≤◌}
-use native.Mathlib.Omega.{arith}
-use borrow.Author.Rules.{rules}
-use lib.ListN.{length, drop, length-set}
+use lib.ListN.{length, drop}
 use Rattle.model.specs.Calls.{per_round}
 use Rattle.load.specs.Stream.{holds_in, carry_from}
-use Rattle.rounds.specs.CarryLaws.{carry-round}
-use Rattle.rounds.specs.TableLaws.{fill_none, fill-next, fill-all}
 use Rattle.rounds.proofs.block.write_helds.Given as goal
 
 abbrev pub invariant-loop-k : goal.invariant-loop-k

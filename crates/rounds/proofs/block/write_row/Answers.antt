@@ -3,7 +3,6 @@ use Prim.Native.Nat.{◌+◌}
 use native.Mathlib.Omega.{arith}
 use Rattle.rounds.specs.CarryLaws.{carry-round}
 use Rattle.rounds.specs.RowLaws.{row-part, row_back}
-use borrow.Author.Rules.{rules}
 use Rattle.rounds.proofs.block.write_row.Goals as goal
 
 pub write_helds-requires : goal.write_helds-requires

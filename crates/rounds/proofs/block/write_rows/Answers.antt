@@ -1,10 +1,10 @@
-use Prim.Native.Nat.{◌+◌, ◌-◌, ◌*◌, ◌≤◌}
+use Prim.Native.Nat.{◌+◌, ◌*◌}
 use mathlib.Core.Path.{◌≡◌, refl, sym, ◌∙◌}
 use native.Mathlib.Omega.{arith}
 use lib.ListN.{length, take, get_or}
 use borrow.Author.Rules.{rules}
 use Rattle.load.specs.Stream.{no_stream}
-use Rattle.rounds.specs.Rows.{head_words, active, RowsOf}
+use Rattle.rounds.specs.Rows.{head_words, active}
 use Rattle.rounds.specs.RowLaws.{rows_none, rows_next, rows-room, active-open, active-shut, between_start}
 use Rattle.rounds.specs.TableLaws.{part-long, marked-at}
 use Rattle.rounds.proofs.block.write_rows.Goals as goal
@@ -67,13 +67,13 @@ loop-i-preserved c =
     let here = c.loop-i-test.true in
     let asked = c.open_between in
     elim c.if-open_between.branch [
-      then-open_between w ↦
+      | then-open_between w ↦
           let o = sym asked.ensures ∙ w.if-open_between.true in
           let room = rows-room a.from (a.from + a.n) a.xs l.i a.count (head_words + a.n) l.rows (length l.words) here (omega (arith, start.requires.0.few))
-              l.invariant.2.bookings (omega (arith, start.requires.2)) o in
+          l.invariant.2.bookings (omega (arith, start.requires.2)) o in
           let more = active-open a.from (a.from + a.n) a.xs l.i (omega (arith, start.requires.0.few)) o in
           let next = rows_next a.file.now (active a.from (a.from + a.n) (take l.i a.xs)) a.from a.n l.rows l.words (get_or a.xs l.i no_stream) _
-              l.invariant.2 room w.write_row.ensures in
+          l.invariant.2 room w.write_row.ensures in
           (omega arith, c.if-open_between.auto.words ∙ l.invariant.1, rw (w.rows-is, w.words-is, more) next)
       | else-open_between w ↦
           let less = active-shut a.from (a.from + a.n) a.xs l.i (omega (arith, start.requires.0.few)) (sym asked.ensures ∙ w.if-open_between.false) in

@@ -1,15 +1,9 @@
 -- `rounds::block::write_rows` meets its contract. The invariant: the rows of those of the first i bookings that are open in these rounds are
 -- written. The measure is what is left of the bookings. Assumes nothing.
-use Prim.Native.Nat.{◌+◌, ◌-◌, ◌*◌, ◌≤◌}
-use mathlib.Core.Path.{◌≡◌, refl, sym, ◌∙◌}
-use native.Mathlib.Omega.{arith}
-use lib.ListN.{length, take, get_or}
-use borrow.Author.Rules.{rules}
-use mathlib.Core.Logic.{⊎_elim}
-use Rattle.load.specs.Stream.{no_stream}
-use Rattle.rounds.specs.Rows.{head_words, active, RowsOf}
-use Rattle.rounds.specs.RowLaws.{rows_none, rows_next, rows-room, active-open, active-shut, between_start}
-use Rattle.rounds.specs.TableLaws.{part-long, marked-at}
+use Prim.Native.Nat.{◌+◌, ◌-◌, ◌≤◌}
+use mathlib.Core.Path.{◌≡◌}
+use lib.ListN.{length, take}
+use Rattle.rounds.specs.Rows.{active, RowsOf}
 use Rattle.rounds.proofs.block.write_rows.Given as goal
 
 abbrev pub invariant-loop-i : goal.invariant-loop-i

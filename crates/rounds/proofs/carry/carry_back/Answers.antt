@@ -1,8 +1,5 @@
-use mathlib.Core.Path.{◌≡◌}
-use Prim.Native.Nat.{◌+◌, ◌≤◌}
+use Prim.Native.Nat.{◌+◌}
 use native.Mathlib.Omega.{arith}
-use borrow.Author.Rules.{rules}
-use Rattle.load.specs.Stream.{carry_from}
 use Rattle.rounds.specs.CarryLaws.{carry-round, carry-cut}
 use Rattle.rounds.proofs.carry.carry_back.Goals as goal
 

@@ -2,10 +2,7 @@
 -- Assumes nothing.
 use mathlib.Core.Path.{◌≡◌}
 use Prim.Native.Nat.{◌+◌, ◌≤◌}
-use native.Mathlib.Omega.{arith}
-use borrow.Author.Rules.{rules}
 use Rattle.load.specs.Stream.{carry_from}
-use Rattle.rounds.specs.CarryLaws.{carry-round, carry-cut}
 use Rattle.rounds.proofs.carry.carry_back.Given as goal
 
 abbrev pub invariant-loop-k : goal.invariant-loop-k

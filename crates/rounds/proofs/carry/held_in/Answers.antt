@@ -1,8 +1,6 @@
 -- `rounds::carry::held_in` meets its contract: a round in which the booking is not open carries what the next does. Assumes nothing.
 use mathlib.Core.Path.{sym, ◌∙◌}
 use native.Mathlib.Omega.{arith}
-use borrow.Author.Rules.{rules}
-use borrow.Author.Tests.{not-true, not-false}
 use Rattle.load.specs.StreamLaws.{open-place}
 use Rattle.rounds.specs.CarryLaws.{holds-most, carry-shut, holds-open, carry-open}
 use Rattle.rounds.proofs.carry.held_in.Goals as goal

@@ -1,16 +1,9 @@
-use Prim.Native.Nat.{ℕ, ◌-◌, ◌≤◌}
-use mathlib.Core.Path.{◌≡◌, refl, sym, ◌∙◌}
-use mathlib.Core.List.{List}
+use mathlib.Core.Path.{refl, sym, ◌∙◌}
 use native.Mathlib.Omega.{arith}
-use lib.ListN.{length, take}
-use lib.Seq.{slice}
-use borrow.Author.Rules.{rules}
 use borrow.Author.Tests.{eq-eqb, ne_eqb}
-use Rattle.laws.specs.Tests.{all}
 use Rattle.load.specs.Stream.{no_stream}
 use Rattle.load.specs.Lists.{all-no, all-next, all_end}
-use Rattle.load.specs.declared.stream.Stream.{Stream}
-use Rattle.rounds.specs.Table.{mark_count, Marked}
+use Rattle.rounds.specs.Table.{mark_count}
 use Rattle.rounds.specs.TableLaws.{row_within}
 use Rattle.rounds.specs.Kept.{feasible}
 use Rattle.rounds.specs.FeasibleLaws.{mark-feasible}

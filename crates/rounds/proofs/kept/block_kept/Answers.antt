@@ -1,14 +1,9 @@
-use Prim.Native.Nat.{ℕ, ◌+◌, ◌-◌, ◌≤◌}
+use Prim.Native.Nat.{ℕ, ◌+◌, ◌-◌}
 use mathlib.Core.Path.{◌≡◌, sym, ap, ◌∙◌}
 use native.Mathlib.Omega.{arith}
-use borrow.Author.Rules.{rules}
-use borrow.Author.Tests.{not-true, not-false}
 use mathlib.Core.Bool.{Bool}
-use mathlib.Core.List.{List}
-use Rattle.load.specs.declared.stream.Stream.{Stream}
-use Rattle.rounds.specs.Rows.{BlockOf}
 use Rattle.rounds.specs.Sums.{sums_in}
-use Rattle.rounds.specs.Kept.{sums_kept, in_rounds, loss_in}
+use Rattle.rounds.specs.Kept.{sums_kept, loss_in}
 use Rattle.rounds.specs.KeptLaws.{rounds-no, rounds-yes}
 use Rattle.rounds.proofs.kept.block_kept.Goals as goal
 

@@ -1,17 +1,12 @@
 -- `rounds::kept::block_kept` meets its contract. The invariant: every round of the block is kept exactly if those after the first k are. The
 -- measure is what is left of its rounds. Assumes nothing.
 use Prim.Native.Nat.{ℕ, ◌+◌, ◌-◌, ◌≤◌}
-use mathlib.Core.Path.{◌≡◌, sym, ap, ◌∙◌}
-use native.Mathlib.Omega.{arith}
-use borrow.Author.Rules.{rules}
-use borrow.Author.Tests.{not-true, not-false}
-use mathlib.Core.Bool.{Bool}
+use mathlib.Core.Path.{◌≡◌}
 use mathlib.Core.List.{List}
 use Rattle.load.specs.declared.stream.Stream.{Stream}
 use Rattle.rounds.specs.Rows.{BlockOf}
 use Rattle.rounds.specs.Sums.{sums_in}
 use Rattle.rounds.specs.Kept.{sums_kept, in_rounds, loss_in}
-use Rattle.rounds.specs.KeptLaws.{rounds-no, rounds-yes}
 use Rattle.rounds.proofs.kept.block_kept.Given as goal
 
 abbrev pub invariant-loop-k : goal.invariant-loop-k

@@ -1,9 +1,7 @@
 use Prim.Native.Nat.{ℕ, ◌+◌, ◌-◌, ◌<◌, ◌≤◌}
 use mathlib.Core.Path.{◌≡◌, refl, sym, ap, ◌∙◌}
 use native.Mathlib.Omega.{arith}
-use lib.ListN.{length, take, length-replicate, length-take}
-use borrow.Author.Rules.{rules}
-use borrow.Author.Tests.{not-true, not-false}
+use lib.ListN.{take, length-replicate, length-take}
 use mathlib.Core.Bool.{Bool, true, false, ◌&&◌}
 use Rattle.laws.specs.Tests.{all}
 use Rattle.loss.specs.Loss.{loss_at}

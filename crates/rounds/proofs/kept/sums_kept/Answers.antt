@@ -1,6 +1,5 @@
 -- `rounds::kept::sums_kept` meets its contract. Assumes nothing.
 use native.Mathlib.Omega.{arith}
-use borrow.Author.Rules.{rules}
 use Rattle.rounds.specs.Kept.{loss_in}
 use Rattle.rounds.specs.KeptLaws.{disk-broken, memory-broken, cabs-decide}
 use Rattle.rounds.proofs.kept.sums_kept.Goals as goal

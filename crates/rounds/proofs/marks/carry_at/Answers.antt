@@ -2,7 +2,6 @@
 use mathlib.Core.Path.{sym}
 use Prim.Native.Nat.{◌+◌, ◌-◌, ◌*◌, ◌/◌}
 use native.Mathlib.Omega.{arith}
-use borrow.Author.Rules.{rules}
 use Rattle.rounds.specs.CarryLaws.{carry-late, carry-round}
 use Rattle.rounds.proofs.marks.carry_at.Goals as goal
 

@@ -1,9 +1,7 @@
 use mathlib.Core.Path.{◌≡◌, sym, ap, ◌∙◌}
-use Prim.Native.Nat.{◌+◌, ◌-◌, ◌*◌, ◌≤◌}
+use Prim.Native.Nat.{◌+◌, ◌-◌, ◌*◌}
 use native.Mathlib.Omega.{arith}
-use borrow.Author.Rules.{rules}
-use lib.ListN.{length, drop, length-set}
-use Rattle.model.specs.Calls.{per_round}
+use lib.ListN.{length-set}
 use Rattle.rounds.specs.Table.{mark_rounds, mark_count, mark_of, marks_of}
 use Rattle.rounds.specs.CarryLaws.{carry-late, carry-round}
 use Rattle.rounds.specs.TableLaws.{fill_none, fill-next, fill-all}

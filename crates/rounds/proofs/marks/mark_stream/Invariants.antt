@@ -1,14 +1,10 @@
 -- `rounds::marks::mark_stream` meets its contract. The invariant: the marks from j on are written, and c is mark j. The measure is j.
 -- Assumes nothing.
-use mathlib.Core.Path.{◌≡◌, sym, ap, ◌∙◌}
-use Prim.Native.Nat.{◌+◌, ◌-◌, ◌*◌, ◌≤◌}
-use native.Mathlib.Omega.{arith}
-use borrow.Author.Rules.{rules}
-use lib.ListN.{length, drop, length-set}
+use mathlib.Core.Path.{◌≡◌}
+use Prim.Native.Nat.{◌+◌, ◌-◌, ◌≤◌}
+use lib.ListN.{length, drop}
 use Rattle.model.specs.Calls.{per_round}
-use Rattle.rounds.specs.Table.{mark_rounds, mark_count, mark_of, marks_of}
-use Rattle.rounds.specs.CarryLaws.{carry-late, carry-round}
-use Rattle.rounds.specs.TableLaws.{fill_none, fill-next, fill-all}
+use Rattle.rounds.specs.Table.{mark_count, mark_of}
 use Rattle.rounds.proofs.marks.mark_stream.Given as goal
 
 abbrev pub invariant-loop-j : goal.invariant-loop-j

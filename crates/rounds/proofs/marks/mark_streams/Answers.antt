@@ -1,9 +1,8 @@
-use Prim.Native.Nat.{◌-◌, ◌*◌, ◌≤◌}
+use Prim.Native.Nat.{◌*◌}
 use mathlib.Core.Path.{◌≡◌}
 use native.Mathlib.Omega.{arith}
-use lib.ListN.{length}
 use borrow.Author.Rules.{rules}
-use Rattle.rounds.specs.Table.{mark_count, Marked}
+use Rattle.rounds.specs.Table.{mark_count}
 use Rattle.rounds.specs.TableLaws.{part-long, marked_next}
 use Rattle.rounds.proofs.marks.mark_streams.Goals as goal
 

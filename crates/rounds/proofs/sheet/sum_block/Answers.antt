@@ -1,13 +1,8 @@
-use Prim.Native.Nat.{ℕ, ◌+◌, ◌-◌, ◌≤◌}
+use Prim.Native.Nat.{◌+◌}
 use mathlib.Core.Path.{◌≡◌, refl, ◌∙◌}
 use native.Mathlib.Omega.{arith}
-use lib.ListN.{length, length-set}
-use borrow.Author.Rules.{rules}
-use mathlib.Core.List.{List}
-use Rattle.load.specs.declared.stream.Stream.{Stream}
-use Rattle.rounds.specs.Rows.{BlockOf}
+use lib.ListN.{length-set}
 use Rattle.rounds.specs.Sums.{sums_in}
-use Rattle.rounds.specs.Sheet.{Summed}
 use Rattle.rounds.specs.SheetLaws.{summed-none, summed-next}
 use Rattle.rounds.proofs.sheet.sum_block.Goals as goal
 

@@ -1,16 +1,13 @@
 -- `rounds::sheet::sum_block` meets its contract. The invariant: the block's first k rounds are summed. The measure is what is left of its
 -- rounds. Assumes nothing.
 use Prim.Native.Nat.{ℕ, ◌+◌, ◌-◌, ◌≤◌}
-use mathlib.Core.Path.{◌≡◌, refl, ◌∙◌}
-use native.Mathlib.Omega.{arith}
-use lib.ListN.{length, length-set}
-use borrow.Author.Rules.{rules}
+use mathlib.Core.Path.{◌≡◌}
+use lib.ListN.{length}
 use mathlib.Core.List.{List}
 use Rattle.load.specs.declared.stream.Stream.{Stream}
 use Rattle.rounds.specs.Rows.{BlockOf}
 use Rattle.rounds.specs.Sums.{sums_in}
 use Rattle.rounds.specs.Sheet.{Summed}
-use Rattle.rounds.specs.SheetLaws.{summed-none, summed-next}
 use Rattle.rounds.proofs.sheet.sum_block.Given as goal
 
 abbrev pub invariant-loop-k : goal.invariant-loop-k

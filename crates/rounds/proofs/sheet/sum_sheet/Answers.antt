@@ -1,12 +1,11 @@
-use Prim.Native.Nat.{ℕ, ◌+◌, ◌-◌, ◌≤◌}
+use Prim.Native.Nat.{ℕ, ◌+◌}
 use mathlib.Core.Path.{◌≡◌, refl}
 use native.Mathlib.Omega.{arith}
-use lib.ListN.{length, take, length-replicate}
+use lib.ListN.{take, length-replicate}
 use borrow.Author.Rules.{rules}
 use Rattle.rounds.specs.Rows.{active}
 use Rattle.rounds.specs.Sums.{none, sums_in}
 use Rattle.rounds.specs.SumLaws.{sums-active}
-use Rattle.rounds.specs.Sheet.{Summed}
 use Rattle.rounds.specs.SheetLaws.{summed-none, summed-then, summed-sheet}
 use Rattle.rounds.proofs.sheet.sum_sheet.Goals as goal
 

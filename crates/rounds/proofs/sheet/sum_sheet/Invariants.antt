@@ -1,15 +1,10 @@
 -- `rounds::sheet::sum_sheet` meets its contract. The invariant: the rounds before t are summed. The measure is what is left of the rounds: a
 -- block has one at least. Assumes nothing.
-use Prim.Native.Nat.{ℕ, ◌+◌, ◌-◌, ◌≤◌}
-use mathlib.Core.Path.{◌≡◌, refl}
-use native.Mathlib.Omega.{arith}
-use lib.ListN.{length, take, length-replicate}
-use borrow.Author.Rules.{rules}
-use Rattle.rounds.specs.Rows.{active}
-use Rattle.rounds.specs.Sums.{none, sums_in}
-use Rattle.rounds.specs.SumLaws.{sums-active}
+use Prim.Native.Nat.{◌-◌, ◌≤◌}
+use mathlib.Core.Path.{◌≡◌}
+use lib.ListN.{length, take}
+use Rattle.rounds.specs.Sums.{sums_in}
 use Rattle.rounds.specs.Sheet.{Summed}
-use Rattle.rounds.specs.SheetLaws.{summed-none, summed-then, summed-sheet}
 use Rattle.rounds.proofs.sheet.sum_sheet.Given as goal
 
 abbrev pub invariant-loop-t : goal.invariant-loop-t

@@ -1,14 +1,9 @@
-use Prim.Native.Nat.{ℕ, ◌+◌, ◌-◌, ◌≤◌}
-use mathlib.Core.Path.{◌≡◌, refl, sym, ◌∙◌}
+use Prim.Native.Nat.{◌+◌}
+use mathlib.Core.Path.{refl, sym, ◌∙◌}
 use native.Mathlib.Omega.{arith}
-use lib.ListN.{drop}
-use borrow.Author.Rules.{rules}
-use mathlib.Core.List.{List}
-use Rattle.load.specs.declared.stream.Stream.{Stream}
-use Rattle.rounds.specs.Rows.{head_words, BlockOf}
-use Rattle.rounds.specs.Sums.{sums_from, sums_in}
+use Rattle.rounds.specs.Rows.{head_words}
 use Rattle.rounds.specs.TableLaws.{row_within}
-use Rattle.rounds.specs.SumLaws.{Within, within-room, within-next, block-reserve, block-small, block-turn, block-end}
+use Rattle.rounds.specs.SumLaws.{within-room, within-next, block-reserve, block-small, block-turn, block-end}
 use Rattle.rounds.proofs.sums.round_sums.Goals as goal
 
 pub overflow_mul-at : goal.overflow_mul-at

@@ -1,16 +1,13 @@
 -- `rounds::sums::round_sums` meets its contract. The invariant: of whatever bookings the words are, s is the sums of the first i, so that the
 -- others added to it are the sums of all. The measure is what is left of the rows. Assumes nothing.
 use Prim.Native.Nat.{ℕ, ◌+◌, ◌-◌, ◌≤◌}
-use mathlib.Core.Path.{◌≡◌, refl, sym, ◌∙◌}
-use native.Mathlib.Omega.{arith}
+use mathlib.Core.Path.{◌≡◌}
 use lib.ListN.{drop}
-use borrow.Author.Rules.{rules}
 use mathlib.Core.List.{List}
 use Rattle.load.specs.declared.stream.Stream.{Stream}
-use Rattle.rounds.specs.Rows.{head_words, BlockOf}
+use Rattle.rounds.specs.Rows.{BlockOf}
 use Rattle.rounds.specs.Sums.{sums_from, sums_in}
-use Rattle.rounds.specs.TableLaws.{row_within}
-use Rattle.rounds.specs.SumLaws.{Within, within-room, within-next, block-reserve, block-small, block-turn, block-end}
+use Rattle.rounds.specs.SumLaws.{Within}
 use Rattle.rounds.proofs.sums.round_sums.Given as goal
 
 abbrev pub invariant-loop-i : goal.invariant-loop-i

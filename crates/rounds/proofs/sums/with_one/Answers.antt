@@ -1,7 +1,6 @@
 -- `rounds::sums::with_one` meets its contract. Assumes nothing.
 use mathlib.Core.Path.{sym}
 use Rattle.rounds.specs.SumLaws.{one-early, one-late, one-open}
-use borrow.Author.Rules.{rules}
 use Rattle.rounds.proofs.sums.with_one.Goals as goal
 
 pub returns-then-t-h : goal.returns-then-t-h
