@@ -9,10 +9,9 @@ use console::{OUTPUT_BYTES, Session};
 use limits::bounds::{HALL_FILE, HALL_ROUNDS};
 use lines::Splitter;
 use program::{begin, serve_end, serve_line};
-use std::fs;
-use std::io;
 use std::io::Read;
 use std::rt::Files;
+use std::{fs, io};
 
 // bytes of the film file's buffer: one more than the program takes, so that it sees a file that is too long
 const FILE_BUFFER: usize = HALL_FILE + 1;
