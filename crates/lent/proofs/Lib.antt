@@ -1,8 +1,3 @@
-pub mod Rows
-pub mod Shapes
-pub mod Turn
+-- Lemmas of the loops that copy records, and the theorems of the film reader.
+pub mod FilmReader
 pub mod Lists
-pub mod Small
-pub mod Again
-pub mod Calls
-pub mod ReplayStep

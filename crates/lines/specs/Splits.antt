@@ -132,12 +132,7 @@ more-stands s u b h e =
       ended = open' ∙ sym some_byte;
     })
 
--- what gives out the lines held as `given` does: the theorems below are of any such function, and `splits` of `given` itself
-record Gives (g : Splitter → List ℕ → List (Option (List ℕ))) : Type 0 where
-  at_end : (s : Splitter) → g s [] ≡ cond s.ended [] (held_of s ∷ [])
-  at_byte : (s : Splitter) (b : ℕ) (l : List ℕ) → g s (b ∷ l) ≡ cond (fed s b).ended (held_of (fed s b) ∷ g (fed s b) l) (g (fed s b) l)
-
-last_line : (s : Splitter) (u : List ℕ) → Stands s u → cond s.ended [] (held_of s ∷ []) ≡ map kept (lines u)
+last_line : (s : Splitter) (u : List ℕ) → Stands s u → given s [] ≡ map kept (lines u)
 last_line s [] h = rw h.ended
 last_line s (a ∷ u) h =
     let open' : s.ended ≡ false = h.ended ∙ ne_eqb (suc (length u)) 0 (omega arith) in
@@ -151,27 +146,26 @@ fed-more : (s : Splitter) (b : ℕ) → eqb b line_end ≡ false → (fed s b).e
 unfolding fed
 fed-more s b e = rw e (append-ended (continued s) b ∙ never-ended s)
 
-given_by : (g : Splitter → List ℕ → List (Option (List ℕ))) → Gives g → (s : Splitter) (b : ℕ) (l : List ℕ) (t : Bool) → (fed s b).ended ≡ t
-    → g s (b ∷ l) ≡ cond t (held_of (fed s b) ∷ g (fed s b) l) (g (fed s b) l)
-given_by g r s b l t e = r.at_byte s b l ∙ ap (λ (x : Bool). cond x (held_of (fed s b) ∷ g (fed s b) l) (g (fed s b) l)) e
+given_by : (s : Splitter) (b : ℕ) (l : List ℕ) (t : Bool) → (fed s b).ended ≡ t
+    → given s (b ∷ l) ≡ cond t (held_of (fed s b) ∷ given (fed s b) l) (given (fed s b) l)
+given_by s b l t e = ap (λ (x : Bool). cond x (held_of (fed s b) ∷ given (fed s b) l) (given (fed s b) l)) e
 
-splits-from : (g : Splitter → List ℕ → List (Option (List ℕ))) → Gives g → (l : List ℕ) (s : Splitter) (u : List ℕ) → Stands s u
-    → g s l ≡ map kept (lines (u ++ l))
-splits-from g r [] s u h = r.at_end s ∙ rw append-nil (last_line s u h)
-splits-from g r (b ∷ l) s u h =
-    go (eqb b line_end) refl (λ k. splits-from g r l (fed s b) [] k) (λ k. splits-from g r l (fed s b) (u ++ b ∷ []) k)
+splits-from : (l : List ℕ) (s : Splitter) (u : List ℕ) → Stands s u → given s l ≡ map kept (lines (u ++ l))
+splits-from [] s u h = rw append-nil (last_line s u h)
+splits-from (b ∷ l) s u h =
+    go (eqb b line_end) refl (λ k. splits-from l (fed s b) [] k) (λ k. splits-from l (fed s b) (u ++ b ∷ []) k)
   where
-    go : (t : Bool) → eqb b line_end ≡ t → (Stands (fed s b) [] → g (fed s b) l ≡ map kept (lines l))
-        → (Stands (fed s b) (u ++ b ∷ []) → g (fed s b) l ≡ map kept (lines ((u ++ b ∷ []) ++ l)))
-        → g s (b ∷ l) ≡ map kept (lines (u ++ b ∷ l))
+    go : (t : Bool) → eqb b line_end ≡ t → (Stands (fed s b) [] → given (fed s b) l ≡ map kept (lines l))
+        → (Stands (fed s b) (u ++ b ∷ []) → given (fed s b) l ≡ map kept (lines ((u ++ b ∷ []) ++ l)))
+        → given s (b ∷ l) ≡ map kept (lines (u ++ b ∷ l))
     go true e ih jh =
         let first : held_of (fed s b) ≡ kept u = (fed-end s b e).1 ∙ held_kept (continued s) u h.held in
-        given_by g r s b l true (fed-end s b e).0
-        ∙ ap (λ (k : Option (List ℕ)). k ∷ g (fed s b) l) first
+        given_by s b l true (fed-end s b e).0
+        ∙ ap (λ (k : Option (List ℕ)). k ∷ given (fed s b) l) first
         ∙ ap (λ (r : List (Option (List ℕ))). kept u ∷ r) (ih (ended-stands s u b h e))
         ∙ ap (map kept) (sym (line-end u l b h.plain e))
     go false e ih jh =
-        given_by g r s b l false (fed-more s b e)
+        given_by s b l false (fed-more s b e)
         ∙ jh (more-stands s u b h e)
         ∙ ap (λ (x : List ℕ). map kept (lines x)) (append_assoc u (b ∷ []) l)
 
@@ -186,8 +180,7 @@ started-stands =
 
 -- the lines that the splitter gives out are the lines of the input
 pub splits : (input : List ℕ) → given started input ≡ map kept (lines input)
-splits input =
-    splits-from given (record { at_end = λ s. refl; at_byte = λ s b l. refl }) input started [] started-stands
+splits input = splits-from input started [] started-stands
 
 -- an over-long line is no command, and so nothing is lost by keeping only that it is over-long
 over-long : (w : List ℕ) → leb (length w) max_line ≡ false → command_of w ≡ Command.Bad
@@ -204,14 +197,10 @@ kept-command w = go (leb (length w) max_line) refl
     go true e = by true e
     go false e = by false e ∙ sym (over-long w e)
 
-commands-split : (g : Splitter → List ℕ → List (Option (List ℕ))) → Gives g → (input : List ℕ)
-    → map command_held (g started input) ≡ map command_of (lines input)
-commands-split g r input = ap (map command_held) (splits-from g r input started [] started-stands) ∙ each (lines input)
+-- the commands of a session are those of the lines of its input
+pub session-commands : (input : List ℕ) → map command_held (given started input) ≡ map command_of (lines input)
+session-commands input = ap (map command_held) (splits input) ∙ each (lines input)
   where
     each : (ls : List (List ℕ)) → map command_held (map kept ls) ≡ map command_of ls
     each [] = refl
     each (w ∷ ls) = rw (kept-command w, each ls)
-
--- the commands of a session are those of the lines of its input
-pub session-commands : (input : List ℕ) → map command_held (given started input) ≡ map command_of (lines input)
-session-commands input = commands-split given (record { at_end = λ s. refl; at_byte = λ s b l. refl }) input
