@@ -1,5 +1,5 @@
 -- The catalogue of an accepted file says where the film's sizes stand.
-use Rattle.planning.specs.FileAnswers.{made-accepted, made_found}
+use Rattle.planning.proofs.FileAnswers.{made-accepted, made_found}
 use Rattle.schedule_cases.proofs.holdings.Goals as goal
 
 pub holds-requires : goal.holds-requires
