@@ -1,8 +1,2 @@
-pub mod Rows
-pub mod Shapes
-pub mod Turn
+-- Lemmas of the loops that copy records.
 pub mod Lists
-pub mod Small
-pub mod Again
-pub mod Calls
-pub mod ReplayStep

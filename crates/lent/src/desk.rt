@@ -15,8 +15,7 @@ use replay::replay;
 
 // Books: refusals 1 to 7, 14, 15, 11, 16, 18, 8, 9, 10, 20, 12, 21, 17, 22. A refusal alters nothing lent, but that 22 leaves the
 // sheet of the bookings as they stand.
-#[unsafe(no_mangle)]
-pub extern "C" fn playback_book(
+pub fn playback_book(
     file: &[u8],
     day: Day,
     records: &mut [Booking],
@@ -38,8 +37,7 @@ pub extern "C" fn playback_book(
 }
 
 // Drops the booking of a name: refusals 1 to 7, 14, 15, 11, 16, 19, which alter nothing lent.
-#[unsafe(no_mangle)]
-pub extern "C" fn playback_drop(
+pub fn playback_drop(
     file: &[u8],
     day: Day,
     records: &mut [Booking],
@@ -62,13 +60,7 @@ pub extern "C" fn playback_drop(
 
 // Plays the day's current round and writes its report: refusals 1 to 7, 14, 15, 16, 23, 11, which alter nothing lent. No sheet
 // is looked at.
-#[unsafe(no_mangle)]
-pub extern "C" fn playback_play(
-    file: &[u8],
-    day: Day,
-    records: &[Booking],
-    report: &mut [Line],
-) -> Reply
+pub fn playback_play(file: &[u8], day: Day, records: &[Booking], report: &mut [Line]) -> Reply
     ensures { PlaysOver file.now day records.now report.old result report.new }
 {
     let places = records.len() as u64;
@@ -84,8 +76,7 @@ pub extern "C" fn playback_play(
 
 // Opens a day and carries the journal's entries out in order, as far as the log has room. An opening that is refused, with 14, 15 or
 // 11, changes nothing lent.
-#[unsafe(no_mangle)]
-pub extern "C" fn playback_replay(
+pub fn playback_replay(
     file: &[u8],
     rounds: u64,
     disk: u64,

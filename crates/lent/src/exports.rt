@@ -20,40 +20,35 @@ use interface::reply::Reply;
 use model::Day;
 
 // 0, or the number of the first question, 1 to 7, that the file says no to.
-#[unsafe(no_mangle)]
-pub extern "C" fn playback_verdict(file: &[u8]) -> u32
+pub fn playback_verdict(file: &[u8]) -> u32
     ensures { result ≡ questions.verdict file.now }
 {
     verdict(file)
 }
 
 // The entry that the film reader gives at a position, from 0: refusals 1 to 7.
-#[unsafe(no_mangle)]
-pub extern "C" fn playback_film(file: &[u8], position: u64) -> Film
+pub fn playback_film(file: &[u8], position: u64) -> Film
     ensures { result ≡ film_of (entry_of file.now position) }
 {
     film_at(file, position)
 }
 
 // The summary of a film: refusals 1 to 8.
-#[unsafe(no_mangle)]
-pub extern "C" fn playback_summary(file: &[u8], film: u64) -> Figures
+pub fn playback_summary(file: &[u8], film: u64) -> Figures
     ensures { result ≡ figures_of (summary_of file.now film) }
 {
     summary_of(file, film)
 }
 
 // The size of a film's round, from 0: refusals 1 to 8.
-#[unsafe(no_mangle)]
-pub extern "C" fn playback_round_size(file: &[u8], film: u64, round: u64) -> Size
+pub fn playback_round_size(file: &[u8], film: u64, round: u64) -> Size
     ensures { result ≡ size_of (round_size_of file.now film round) }
 {
     size_at(file, film, round)
 }
 
 // Writes the p + n read totals of a film: 0, or a refusal, 1 to 12, which writes nothing.
-#[unsafe(no_mangle)]
-pub extern "C" fn playback_schedule(
+pub fn playback_schedule(
     file: &[u8],
     film: u64,
     prefetch: u64,
@@ -67,8 +62,7 @@ pub extern "C" fn playback_schedule(
 }
 
 // The least reserve of a film for a memory cap: refusals 1 to 9 and 13.
-#[unsafe(no_mangle)]
-pub extern "C" fn playback_least_reserve(file: &[u8], film: u64, prefetch: u64, cap: u64) -> Reserve
+pub fn playback_least_reserve(file: &[u8], film: u64, prefetch: u64, cap: u64) -> Reserve
     ensures answer { result ≡ reserve_of (reserved file.now film prefetch cap) }
     ensures least { result.refusal ≡ 0 → Least (sends prefetch (layout.sizes_of (films_of file.now) film)) cap result.bytes }
 {
@@ -76,8 +70,7 @@ pub extern "C" fn playback_least_reserve(file: &[u8], film: u64, prefetch: u64, 
 }
 
 // Opens a day: refusals 14, 15, 11, which leave the day before. No record and no film file is looked at.
-#[unsafe(no_mangle)]
-pub extern "C" fn playback_open(
+pub fn playback_open(
     day: Day,
     rounds: u64,
     disk: u64,

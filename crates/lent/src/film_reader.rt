@@ -40,7 +40,7 @@ pub fn next<'s, 'a>(r: &'s mut FilmReader<'a>) -> Entry
     step.entry
 }
 
-// One step of the reader at a cursor's place. What it is handed and gives is plain, so whoever calls it needs no proof by hand.
+// One step of the reader at a cursor's place.
 pub fn step(file: &[u8], cursor: Reader) -> Step
     ensures { result ≡ step_of file.now cursor }
 {

@@ -1,5 +1,5 @@
-// The forms that are proved by hand: bookings as a lent list of records, and the film reader as a struct that holds the file's bytes; and
-// the functions for C and Rust, which the static library has.
+// Bookings as a lent list of records, the film reader as a struct that holds the file's bytes, and the functions that C and Rust call,
+// which crate `lent_c` exports.
 #![tactic(auto)]
 
 pub mod desk;
