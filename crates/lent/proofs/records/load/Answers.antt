@@ -1,7 +1,6 @@
-use Rattle.std.proofs.Common.{◌≡◌, ◌<◌, ◌≤◌, ℕ, length, ap, ◌∙◌, arith}
+use Rattle.std.proofs.Common.{◌≡◌, ℕ, length, ap, ◌∙◌, arith}
 use Rattle.std.proofs.lemmas.List.{length-replicate}
 use Rattle.limits.specs.Bounds.{max_bookings}
-use Rattle.model.specs.declared.Booking.{Booking}
 use Rattle.model.specs.Calls.{no_booking}
 use Rattle.lent.proofs.Lists.{copied, copied_next, loaded_at}
 use Rattle.lent.proofs.records.load.Goals as goal
