@@ -1,4 +1,5 @@
 # make test: the gate, as .ci/run runs it. make demo: the session of document 01. make run FILMS=films.bin < commands: one's own.
+# rt stands for the toolchain's command, which is on the PATH.
 .PHONY: test demo run film-file sessions fmt lib archive examples differential
 
 FILMS ?= films.bin
@@ -7,18 +8,17 @@ HALL := target/bin/hall
 # The folder of what cargo builds.
 CARGO := CARGO_TARGET_DIR=$(CURDIR)/target/cargo cargo
 
-# A crate of the repository, and those on its line without the kit's libraries.
-crates_of = $(1) $(filter-out io libc os,$(shell sed -n 's/^$(1)://p' crates.txt))
-sources_of = $(foreach crate,$(call crates_of,$(1)),$(wildcard crates/$(crate)/src/*.rt))
+# A crate of the repository, and those on its line.
+crates_of = $(1) $(shell sed -n 's/^$(1)[a-z ]*://p' crates.txt)
+sources_of = $(foreach crate,$(call crates_of,$(1)),$(wildcard crates/$(crate)/src/*.rt crates/$(crate)/src/*/*.rt))
 
-# $(call proved,CRATE,COMMANDS): runs commands of rt that prove a crate and those on its line, which takes minutes from nothing. Counts
-# them on standard error as rt says that they are proved, and shows all that it said if the commands fail. What rt leaves as it was, as
-# its sources are the same though newer, is newer too then.
+# $(call proved,CRATE,COMMAND): runs a command of rt in the crate's folder, which proves it and those on its line that have changed: minutes
+# from nothing. Counts on standard error those that are proved, and shows all that rt said if the command fails. What rt leaves as it was,
+# as its sources are the same though newer, is newer too then.
 define proved
-@rm -f target/$(1).status && echo "$(1): proving $(words $(call crates_of,$(1))) crates" >&2
-@{ { $(2); } 2>&1; echo $$? > target/$(1).status; } | tee target/$(1).log | sed -un 's/^rt: \([a-z0-9_]*\) proved.*/\1/p' | { \
-	n=0 seen=; while read -r crate; do case "$$seen " in *" $$crate "*) ;; *) seen="$$seen $$crate" n=$$((n + 1)); \
-	echo "proved crate $$n of $(words $(call crates_of,$(1))): $$crate" >&2 ;; esac; done; }
+@rm -f target/$(1).status && echo "$(1): proving up to $(words $(call crates_of,$(1))) crates" >&2
+@{ (cd crates/$(1) && $(2)) 2>&1; echo $$? > target/$(1).status; } | tee target/$(1).log | sed -un '/^logic=proved /p' | { \
+	n=0; while read -r line; do n=$$((n + 1)); echo "proved: $$n" >&2; done; }
 @[ "$$(cat target/$(1).status)" = 0 ] || { cat target/$(1).log; exit 1; }
 @touch -c $@
 endef
@@ -26,9 +26,12 @@ endef
 test:
 	@.ci/run
 
-# built anew when a source of hall, or of a crate on its line, is newer
-$(HALL): $(call sources_of,hall) | target
-	$(call proved,hall,rt check hall)
+$(HALL): crates/hall/out/hall
+	@mkdir -p target/bin && cp $< $@
+
+# Built anew when a source of hall, or of a crate on its line, is newer. rt runs what it built: here on no input and no film file.
+crates/hall/out/hall: $(call sources_of,hall) | target
+	$(call proved,hall,rt run </dev/null)
 
 demo: $(HALL)
 	@rm -rf target/demo && mkdir -p target/demo && cp crates/hall/data/films.bin target/demo/
@@ -54,7 +57,7 @@ target:
 	@mkdir -p target
 
 fmt:
-	@rt fmt
+	@for crate in $$(sed -n 's/^\([a-z0-9_]*\).*:.*/\1/p' crates.txt); do (cd crates/$$crate && rt fmt) || exit 1; done
 
 # ---- The library for C and Rust
 
@@ -63,13 +66,14 @@ PLAYBACK_LIB_DIR ?= $(CURDIR)/target/staticlib
 export PLAYBACK_LIB_DIR
 ARCHIVE := $(PLAYBACK_LIB_DIR)/liblent.a
 
-# make lib: target/staticlib/liblent.a, proved anew.
-lib: | target
-	@rt staticlib lent
+# make lib: target/staticlib/liblent.a, where a source has changed.
+lib: archive
 
-# rt staticlib proves one crate after the other, rt check those that do not need each other at a time.
-$(CURDIR)/target/staticlib/liblent.a: $(call sources_of,lent) | target
-	$(call proved,lent,rt check interface && rt staticlib lent)
+$(CURDIR)/target/staticlib/liblent.a: crates/lent_c/out/liblent_c.a
+	@mkdir -p target/staticlib && cp $< $@
+
+crates/lent_c/out/liblent_c.a: $(call sources_of,lent_c) | target
+	$(call proved,lent_c,rt lib)
 
 archive: $(ARCHIVE)
 

@@ -145,7 +145,7 @@ fn main() -> ExitCode {
         texts.push(("replays", cases_table(&cases, effort, &mut measured)));
     }
     texts.extend(measured.summary().map(|text| ("ratios", text)));
-    let hall = || fs::canonicalize(&options.hall).expect("`rt check hall` builds the program");
+    let hall = || fs::canonicalize(&options.hall).expect("`make demo` builds the program");
     let folder = env::temp_dir().join(format!("bench-console-{}", std::process::id()));
     let mut line = None;
     if wanted("console") {

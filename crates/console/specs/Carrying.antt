@@ -39,8 +39,8 @@ records-kept S d = go (refusal (open_questions S d))
     go (suc k) = refl
 
 -- an array with no line is that of a call that tells none
-no_line : (o : Outcome) → lines_told o ≡ [] → padded [] ≡ padded (lines_told o)
-no_line o e = ap padded (sym e)
+told_none : (o : Outcome) → lines_told o ≡ [] → padded [] ≡ padded (lines_told o)
+told_none o e = ap padded (sym e)
 
 module _ (file : List ℕ) (s : Session) (opens reserves helds : List ℕ) where
   abbrev before : SessionState
@@ -69,7 +69,7 @@ module _ (file : List ℕ) (s : Session) (opens reserves helds : List ℕ) where
               helds = w.helds i;
             };
         answer = w.answer;
-        lines = no_line (open_call A lent) (silent (open_call A lent) (open-silent A lent));
+        lines = told_none (open_call A lent) (silent (open_call A lent) (open-silent A lent));
       }
 
   pub book-carries : (q : Request) (a : Answer) (day : Day) (rows : List Booking) (opens' reserves' helds' : List ℕ)
@@ -87,7 +87,7 @@ module _ (file : List ℕ) (s : Session) (opens reserves helds : List ℕ) where
               helds = w.helds i;
             };
         answer = w.answer;
-        lines = no_line (book_call S lent q) (silent (book_call S lent q) (book-silent S lent q));
+        lines = told_none (book_call S lent q) (silent (book_call S lent q) (book-silent S lent q));
       }
 
   pub drop-carries : (name : ℕ) (r : DropOutcome) (opens' reserves' helds' : List ℕ) → Drops S lent name r opens' reserves' helds'
@@ -104,7 +104,7 @@ module _ (file : List ℕ) (s : Session) (opens reserves helds : List ℕ) where
               helds = w.helds i;
             };
         answer = w.answer;
-        lines = no_line (drop_call S lent name) (silent (drop_call S lent name) (drop-silent S lent name));
+        lines = told_none (drop_call S lent name) (silent (drop_call S lent name) (drop-silent S lent name));
       }
 
   pub play-carries : (r : P.Played) → Plays file s.day s.rows hall_places hall_places r

@@ -16,7 +16,7 @@ use Rattle.model.specs.Fit.{Fits, Found}
 use Rattle.model.specs.Calls as C
 use Rattle.model.specs.Calls.{Outcome, Call, call, rounds_in_range, day_in_range, open_questions, open_with, open_call, book_questions, start_of, book_with, book_call, drop_questions, drop_with, drop_call, play_questions, play_with, play_call}
 use Rattle.model.specs.Code.{day_of, opened_day}
-use Rattle.model.specs.PlainDay.{PlainDay, PlainOutcome, at_first, booking, dropping, playing, plain_call}
+use Rattle.model.specs.PlainDay.{PlainDay, PlainOutcome, at_first, plain_call}
 use Rattle.model.specs.Expected.{arguments_of, lent_report, other_places, expected}
 use Rattle.model.specs.Loss.{loss-rising}
 use Rattle.model.specs.Steps.{Accepted, Good, step}

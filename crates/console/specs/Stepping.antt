@@ -11,7 +11,8 @@ use Rattle.playing.specs.LineLaws.{take-padded}
 use Rattle.playing.specs.Contract.{lines_in}
 use Rattle.commands.specs.declared.Command.{Command}
 use Rattle.text.specs.Write.{placed, Wrote}
-use Rattle.text.specs.Digits.{output_bytes, report-fits}
+use Rattle.text.specs.Digits.{output_bytes}
+use Rattle.text.proofs.Digits.{report-fits}
 use Rattle.console.specs.Session.{SessionState, outcome_of, state_after, name_in, lines_told, text_of, session_text}
 use Rattle.console.specs.Contract.{with_sheet, Carries, reply_text, in_front, step_of, printed}
 use Rattle.console.specs.Laws.{told}

@@ -5,7 +5,7 @@ use Rattle.std.proofs.Math.ListN.{length}
 use Rattle.model.specs.declared.Line.{Line}
 use Rattle.playing.specs.Lines.{no_line}
 use Rattle.text.specs.Text.{line_text, report_text}
-use Rattle.text.specs.Digits.{report-length}
+use Rattle.text.proofs.Digits.{report-length}
 use Rattle.text.specs.Write.{Wrote, max_text, buffer_after, place_after}
 use Rattle.text.specs.declared.Written.{Written}
 use Rattle.text.specs.declared.Written.TheVariants.{Next, NoRoom}

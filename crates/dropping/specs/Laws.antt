@@ -10,7 +10,7 @@ use Rattle.laws.specs.Questions.{refusal, refusal-append, or_else, or_else-first
 use Rattle.limits.specs.Refusals.{no_name}
 use Rattle.films.specs.Catalogue.{catalogue_of}
 use Rattle.films.specs.declared.types.Catalogue.{Catalogue}
-use Rattle.loss.specs.Rising.{loss-rising}
+use Rattle.loss.proofs.Rising.{loss-rising}
 use Rattle.model.specs.Day.{Setting, State}
 use Rattle.model.specs.Questions.{drop_own}
 use Rattle.model.specs.Calls.{standing, no_booking, without, rounds_in_range, day_in_range, limits_in_range, sheet_long, sound, drop_questions, drop_call}

@@ -17,11 +17,12 @@ use Rattle.laws.specs.Questions.{Question, refusal, refusal-stands}
 use Rattle.limits.specs.Bounds.{max_films, max_size}
 use Rattle.limits.specs.Refusals.{film_order, round_count}
 use Rattle.films.specs.Sizes.{size, sizes}
-use Rattle.films.specs.SizeLaws.{sizes-cut}
-use Rattle.films.specs.Span.{span, length-span, span_more}
+use Rattle.films.proofs.SizeLaws.{sizes-cut}
+use Rattle.films.specs.Span.{span}
+use Rattle.films.proofs.Span.{length-span, span_more}
 use Rattle.films.specs.Questions.{entry_number, entry_rounds, exceeds, few_rounds, entry_questions, small_sizes}
 use Rattle.films.specs.Catalogue.{places, entry_answer}
-use Rattle.films.specs.Accepted.{after}
+use Rattle.films.proofs.Accepted.{after}
 use Rattle.films.specs.Lookup.{seek}
 use Rattle.films.specs.declared.types.Lookup.TheVariants.{Found, Missing}
 

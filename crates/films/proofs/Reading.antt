@@ -14,7 +14,7 @@ use Rattle.limits.specs.Refusals.{film_order, round_count}
 use Rattle.films.specs.Questions.{films_in, entry_number, entry_rounds, rounds_before, rounds_in_range, entry_questions}
 use Rattle.films.specs.Decode.{offset}
 use Rattle.films.specs.Catalogue.{places, listed, unlisted, entry_answer, entries_of}
-use Rattle.films.specs.Accepted.{holds}
+use Rattle.films.proofs.Accepted.{holds}
 use Rattle.films.specs.declared.types.Catalogue.{Catalogue}
 use Rattle.films.proofs.Laws.{places-none, places-more, least_at, least-none, least_more, entry-stops, entry-passes}
 

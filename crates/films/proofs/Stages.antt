@@ -12,7 +12,7 @@ use Rattle.laws.specs.Questions.{refusal}
 use Rattle.limits.specs.Bounds.{max_films, max_rounds}
 use Rattle.films.specs.Questions.{films_in, entry_rounds, rounds_before, count_at, head_questions, few_rounds, rounds_in_range, entry_questions, size_questions, file_questions, verdict}
 use Rattle.films.specs.Catalogue.{listed, unlisted, catalogue_of, entries_of}
-use Rattle.films.specs.Accepted.{after, holds, head-numbered, entries-numbered, entries-held}
+use Rattle.films.proofs.Accepted.{after, holds, head-numbered, entries-numbered, entries-held}
 use Rattle.films.specs.declared.types.Entries.{Entries}
 use Rattle.films.proofs.Laws.{stands}
 

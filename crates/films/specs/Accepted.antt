@@ -1,11 +1,8 @@
 -- What an accepted file's bytes are, number by number: the questions all hold. Assumes nothing.
-use Rattle.std.specs.Prelude.{ℕ, zero, suc, ◌+◌, ◌*◌, ◌<◌, ◌≤◌, ◌≡◌, refl, true, List, [], ◌∷◌, ◌++◌, length, leb}
-use Rattle.std.proofs.Common.{◌∙◌, ⊎_elim, arith, eq-or-lt_of_le, leb-true, eqb-true, le-leb, eq-eqb}
-use Rattle.laws.specs.Tests.{left, right}
-use Rattle.laws.specs.Questions.{Question, refusal, refusal-held}
+use Rattle.std.specs.Prelude.{ℕ, ◌+◌, ◌*◌, ◌<◌, ◌≤◌, ◌≡◌, true, List, [], ◌∷◌, length}
+use Rattle.laws.specs.Questions.{Question}
 use Rattle.limits.specs.Bounds.{max_films}
-use Rattle.limits.specs.Refusals.{film_order, round_count}
-use Rattle.films.specs.Questions.{films_in, rounds_before, count_at, sizes_in, sizes_at, head_questions, exceeds, few_rounds, entry_questions, small_sizes, size_questions, file_questions, verdict}
+use Rattle.films.specs.Questions.{films_in, rounds_before, sizes_in, sizes_at, exceeds, few_rounds, small_sizes}
 
 -- ---- the first "no", of two lists of questions one after the other
 
@@ -14,56 +11,14 @@ abbrev pub Numbered : List Question → Type 0
 Numbered [] = Unit {0}
 Numbered (q ∷ qs) = (0 < q.1) × Numbered qs
 
-pub both : (qs rs : List Question) → Numbered qs → refusal (qs ++ rs) ≡ 0 → (refusal qs ≡ 0) × (refusal rs ≡ 0)
-both [] rs n e = (refl, e)
-both (q ∷ qs) rs n e =
-    let h = refusal-held q.0 q.1 (qs ++ rs) n.0 e in
-    let t = both qs rs n.1 h.1 in
-    (rw h.0 t.0, t.1)
-
-pub after : (qs rs : List Question) → Numbered qs → refusal qs ≡ 0 → refusal (qs ++ rs) ≡ refusal rs
-after [] rs n e = refl
-after (q ∷ qs) rs n e =
-    let h = refusal-held q.0 q.1 qs n.0 e in
-    rw h.0 (after qs rs n.1 h.1)
-
 -- each question holds
 abbrev pub Holds : List Question → Type 0
 Holds [] = Unit {0}
 Holds (q ∷ qs) = (q.0 ≡ true) × Holds qs
 
-pub holds : (qs : List Question) → Numbered qs → refusal qs ≡ 0 → Holds qs
-holds [] n e = tt
-holds (q ∷ qs) n e =
-    let h = refusal-held q.0 q.1 qs n.0 e in
-    (h.0, holds qs n.1 h.1)
-
--- ---- the three parts of the file's questions
-
-pub head-numbered : (s : List ℕ) → Numbered (head_questions s)
-unfolding head_questions
-head-numbered s = (omega arith, (omega arith, (omega arith, tt)))
-
-pub entries-numbered : (s : List ℕ) (i k : ℕ) → Numbered (entry_questions s i k)
-entries-numbered s i zero = tt
-entries-numbered s i (suc k) = (omega arith, (omega arith, entries-numbered s (suc i) k))
-
 -- entry i passes its two questions
 abbrev pub Passes : List ℕ → ℕ → Type 0
 Passes s i = (exceeds s i ≡ true) × (few_rounds s i ≡ true)
-
-pub entries-held : (s : List ℕ) (i k : ℕ) → refusal (entry_questions s i k) ≡ 0 → (j : ℕ) → i ≤ j → j < i + k → Passes s j
-entries-held s i zero e j p q = absurd (omega arith)
-entries-held s i (suc k) e j p q =
-    let h = refusal-held (exceeds s i) film_order ((few_rounds s i, round_count) ∷ entry_questions s (suc i) k) (omega arith) e in
-    let g = refusal-held (few_rounds s i) round_count (entry_questions s (suc i) k) (omega arith) h.1 in
-    ⊎_elim (λ z. rw (← z) (h.0, g.0)) (λ z. entries-held s (suc i) k g.1 j z (omega arith)) (eq-or-lt_of_le p)
-
-entries_none : (s : List ℕ) (i k : ℕ) → ((j : ℕ) → i ≤ j → j < i + k → Passes s j) → refusal (entry_questions s i k) ≡ 0
-entries_none s i zero f = refl
-entries_none s i (suc k) f =
-    let p = f i (omega arith) (omega arith) in
-    rw (p.0, p.1) (entries_none s (suc i) k (λ j l m. f j (omega arith) (omega arith)))
 
 -- ---- all of them
 
@@ -75,62 +30,8 @@ pub record Accepted (s : List ℕ) : Type 0 where
   pub small : small_sizes s (sizes_at s) (sizes_in s) ≡ true
   pub ends : length s ≡ sizes_at s + 4 * sizes_in s
 
-head-held : (s : List ℕ) → refusal (head_questions s) ≡ 0 → (1 ≤ films_in s) × (films_in s ≤ max_films)
-unfolding head_questions
-head-held s e =
-    let h = (holds (head_questions s) (head-numbered s) e).1.0 in
-    (leb-true _ _ (left (leb 1 (films_in s)) (leb (films_in s) max_films) h), leb-true _ _ (right (leb 1 (films_in s)) h))
-
 -- what the last five questions hold
-abbrev SizesHold : List ℕ → Type 0
+abbrev pub SizesHold : List ℕ → Type 0
 SizesHold s =
     (sizes_in s ≡ rounds_before s (films_in s))
     × ((small_sizes s (sizes_at s) (sizes_in s) ≡ true) × (length s ≡ sizes_at s + 4 * sizes_in s))
-
-sizes-numbered : (s : List ℕ) → Numbered (size_questions s)
-unfolding size_questions
-sizes-numbered s = (omega arith, (omega arith, (omega arith, (omega arith, (omega arith, tt)))))
-
-sizes-held : (s : List ℕ) → refusal (size_questions s) ≡ 0 → SizesHold s
-unfolding size_questions
-sizes-held s e =
-    let h = holds (size_questions s) (sizes-numbered s) e in
-    (eqb-true _ _ h.1.0, (h.1.1.1.0, eqb-true _ _ h.1.1.1.1.0))
-
-pub accepted : (s : List ℕ) → verdict s ≡ 0 → Accepted s
-unfolding verdict file_questions
-accepted s e =
-    let h = both (head_questions s) (entry_questions s 0 (films_in s) ++ size_questions s) (head-numbered s) e in
-    let g = both (entry_questions s 0 (films_in s)) (size_questions s) (entries-numbered s 0 (films_in s)) h.1 in
-    let c = head-held s h.0 in
-    let z = sizes-held s g.1 in
-    record {
-      some = c.0;
-      few = c.1;
-      passes = λ i l. entries-held s 0 (films_in s) g.0 i (omega arith) (omega arith);
-      total = z.0;
-      small = z.1.0;
-      ends = z.1.1;
-    }
-
-head-none : (s : List ℕ) → Accepted s → refusal (head_questions s) ≡ 0
-unfolding head_questions
-head-none s a =
-    let h : 2 ≤ length s = omega (arith, a.ends) in
-    let g : count_at s ≤ length s = omega (arith, a.ends) in
-    simp (le-leb _ _ h, le-leb _ _ a.some, le-leb _ _ a.few, le-leb _ _ g)
-
-sizes-none : (s : List ℕ) → Accepted s → refusal (size_questions s) ≡ 0
-unfolding size_questions
-sizes-none s a =
-    let h : sizes_at s ≤ length s = omega (arith, a.ends) in
-    let g : sizes_at s + 4 * sizes_in s ≤ length s = omega (arith, a.ends) in
-    simp (le-leb _ _ h, eq-eqb _ _ a.total, le-leb _ _ g, a.small, eq-eqb _ _ a.ends)
-
-pub acceptance : (s : List ℕ) → Accepted s → verdict s ≡ 0
-unfolding verdict file_questions
-acceptance s a =
-    after (head_questions s) (entry_questions s 0 (films_in s) ++ size_questions s) (head-numbered s) (head-none s a)
-    ∙ after (entry_questions s 0 (films_in s)) (size_questions s) (entries-numbered s 0 (films_in s))
-    (entries_none s 0 (films_in s) (λ i l m. a.passes i (omega arith)))
-    ∙ sizes-none s a

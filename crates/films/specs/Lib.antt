@@ -6,10 +6,7 @@ pub mod Questions
 pub mod Decode
 pub mod Catalogue
 pub mod Lookup
-pub mod SizeLaws
 pub mod Accepted
-pub mod FilmLaws
-pub mod Decoded
 pub mod Encoded
 pub mod Theorems
 pub mod Examples

@@ -1,2 +1,3 @@
--- Lemmas of the loops that copy records.
+-- Lemmas of the loops that copy records, and the theorems of the film reader.
+pub mod FilmReader
 pub mod Lists

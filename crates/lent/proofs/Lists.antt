@@ -6,7 +6,7 @@ use Rattle.limits.specs.Bounds.{max_bookings}
 use Rattle.model.specs.declared.Booking.{Booking}
 use Rattle.model.specs.Calls.{no_booking}
 use Rattle.interface.specs.Records.{loaded}
-use Rattle.interface.specs.RecordLaws.{take_min}
+use Rattle.interface.proofs.RecordLaws.{take_min}
 
 module _ {A : Type 0} where
   abbrev pub copied : List A → List A → ℕ → List A

@@ -3,4 +3,3 @@ pub mod Lines
 pub mod Feeding
 pub mod Session
 pub mod Splits
-pub mod FeedingLaws

@@ -7,7 +7,8 @@ use Rattle.laws.specs.Tests.{left, right, all, all-at}
 use Rattle.films.specs.Sizes.{Stored}
 use Rattle.films.specs.Questions.{verdict}
 use Rattle.films.specs.Catalogue.{catalogue_of}
-use Rattle.films.specs.Lookup.{lookup_in, Says, lookup-says}
+use Rattle.films.specs.Lookup.{lookup_in, Says}
+use Rattle.films.proofs.LookupLaws.{lookup-says}
 use Rattle.films.specs.declared.types.Lookup.{Lookup}
 use Rattle.films.specs.declared.types.Lookup.TheVariants.{Found, Missing}
 use Rattle.model.specs.Calls.{no_booking}

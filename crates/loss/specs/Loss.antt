@@ -1,9 +1,5 @@
 -- The disk loss (document 01, 'The disk loss').
-use Rattle.std.specs.Prelude.{ℕ, suc, ◌*◌, ◌≤◌, ◌<◌, ◌≡◌, refl, Bool, true, ◌&&◌, List, [], ◌∷◌, leb, ltb, length, get_or}
-use Rattle.std.proofs.Common.{arith, leb-true, ltb-true}
-use Rattle.limits.specs.Bounds.{max_bookings}
-use Rattle.laws.specs.Tests.{left, right}
-use Rattle.laws.specs.Table.{entries, entry}
+use Rattle.std.specs.Prelude.{ℕ, suc, ◌*◌, ◌≤◌, ◌<◌, Bool, ◌&&◌, List, [], ◌∷◌, leb, ltb, get_or}
 
 -- "It is a constant table of 257 entries."
 unfoldable pub table : List ℕ
@@ -44,22 +40,3 @@ pub record LossRule (loss : ℕ → ℕ) (k : ℕ) : Type 0 where
 -- the rule as a test of entry k
 abbrev pub obeys : ℕ → ℕ → Bool
 obeys k x = leb (x * x) (k * square_of_one) && ltb (k * square_of_one) (suc x * suc x)
-
--- the test over the whole table, computed
-pub table-obeys : entries obeys 0 table ≡ true
-unfolding table
-table-obeys = refl
-
-pub table-length : length table ≡ suc max_bookings
-unfolding table
-table-length = refl
-
--- the table is the paper's rule at each k from 0 to 256
-pub table-rule : (k : ℕ) → k ≤ max_bookings → LossRule loss_at k
-table-rule k h =
-    let inside : k < length table = omega (arith, table-length) in
-    let passed : obeys k (loss_at k) ≡ true = entry obeys table table-obeys k inside in
-    record {
-      low = leb-true _ _ (left _ _ passed);
-      high = ltb-true _ _ (right (leb (loss_at k * loss_at k) (k * square_of_one)) passed);
-    }

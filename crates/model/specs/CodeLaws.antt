@@ -3,7 +3,7 @@
 use Rattle.std.specs.Prelude.{◌≡◌, cond, List, [], ◌∷◌, ◌++◌, ℕ, zero, suc, ◌+◌, ◌-◌, ◌<◌, get_or}
 use Rattle.std.proofs.Common.{ap, ◌∙◌, not-suc-le-zero, le_of_suc-le-suc, arith}
 use Rattle.retrieval.specs.Carry.{profile}
-use Rattle.retrieval.specs.Laws.{just_in_time-helds}
+use Rattle.retrieval.proofs.Laws.{just_in_time-helds}
 use Rattle.model.specs.Day.{Setting, total, sending, open_at, schedule_of, held_at}
 use Rattle.model.specs.Calls.{per_round}
 use Rattle.model.specs.declared.Booking.{Booking}

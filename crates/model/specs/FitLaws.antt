@@ -12,7 +12,7 @@ use Rattle.films.specs.Layout.{sizes_of}
 use Rattle.retrieval.specs.Schedule.{sends, helds}
 use Rattle.retrieval.specs.JustInTime.{just_in_time}
 use Rattle.retrieval.specs.Carry.{carry}
-use Rattle.retrieval.specs.Laws.{due-carry, just_in_time-schedule, schedule-carry, reads-helds, just_in_time-helds}
+use Rattle.retrieval.proofs.Laws.{due-carry, just_in_time-schedule, schedule-carry, reads-helds, just_in_time-helds}
 use Rattle.model.specs.Day.{Setting, sending, ends, open_at, cabs_at, schedule_of, exists, held_at, opened, reserved, held, showing}
 use Rattle.model.specs.Fit.{Allowed, Schedules, held_by, Kept, Fits}
 use Rattle.model.specs.Soundness.{apart, round_kept, limits_kept, fit_test}

@@ -11,7 +11,7 @@ use Rattle.laws.specs.Tests.{left, right, all}
 use Rattle.retrieval.specs.Schedule.{totals}
 use Rattle.retrieval.specs.JustInTime.{due, just_in_time}
 use Rattle.retrieval.specs.Carry.{carry, profile}
-use Rattle.retrieval.specs.Laws.{due-carry, just_in_time-at, profile-at, carry-drop}
+use Rattle.retrieval.proofs.Laws.{due-carry, just_in_time-at, profile-at, carry-drop}
 use Rattle.model.specs.Day.{Setting, total, sending, open_at, cabs_at, exists, opened}
 use Rattle.model.specs.Report.{line_of, lines_of}
 use Rattle.model.specs.Soundness.{apart}

@@ -4,7 +4,7 @@ use Rattle.std.specs.Prelude.{◌≡◌, refl, Bool, true, false, cond, List, []
 use Rattle.std.proofs.Common.{sym, arith}
 use Rattle.laws.specs.Tests.{left, right, all}
 use Rattle.retrieval.specs.Schedule.{helds}
-use Rattle.retrieval.specs.Laws.{just_in_time-schedule, length-just_in_time, helds-at}
+use Rattle.retrieval.proofs.Laws.{just_in_time-schedule, length-just_in_time, helds-at}
 use Rattle.model.specs.Day.{Setting, State, sending, open_at, schedule_of, exists, reserved, held}
 use Rattle.model.specs.Fit.{Fits, Found, nowhere, at}
 use Rattle.model.specs.Report.{line_of, lines_of, sum_read, sum_held, Within, EachWithin}

@@ -8,7 +8,7 @@ use borrow.Author.Tests.{leb-true, le-leb}
 use Rattle.laws.specs.Tests.{left, right, join, all}
 use Rattle.limits.specs.Bounds.{max_prefetch, max_reserve}
 use Rattle.films.specs.Layout.{in_file}
-use Rattle.retrieval.specs.Tests.{same_test}
+use Rattle.retrieval.proofs.Tests.{same_test}
 use Rattle.model.specs.Day.{Setting, ends, exists}
 use Rattle.model.specs.Soundness.{names_differ, passes, limits_kept, sound_list}
 use Rattle.model.specs.SoundLaws.{passes-held, held-passes}

@@ -10,7 +10,7 @@ use Rattle.laws.specs.Tests.{left, right}
 use Rattle.films.specs.Layout.{sizes_of}
 use Rattle.retrieval.specs.Schedule.{totals}
 use Rattle.retrieval.specs.Carry.{carry}
-use Rattle.retrieval.specs.Laws.{just_in_time-at, carry-drop}
+use Rattle.retrieval.proofs.Laws.{just_in_time-at, carry-drop}
 use Rattle.model.specs.Day.{Setting, State, record_of, sending, ends, open_at, schedule_of, exists}
 use Rattle.model.specs.Fit.{Fits, Found, nowhere, at}
 use Rattle.model.specs.Questions.{has_name}

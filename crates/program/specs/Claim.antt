@@ -11,7 +11,7 @@ use Rattle.model.specs.Fit.{Fits}
 use Rattle.model.specs.declared.Booking.{Booking}
 use Rattle.commands.specs.Grammar.{command_of}
 use Rattle.lines.specs.Lines.{lines, started}
-use Rattle.lines.specs.Splits.{session-commands}
+use Rattle.lines.proofs.Splits.{session-commands}
 use Rattle.text.specs.Digits.{output_bytes}
 use Rattle.console.specs.Session.{at_start}
 use Rattle.console.specs.Contract.{printed}

@@ -13,7 +13,7 @@ use Rattle.films.specs.Questions.{verdict}
 use Rattle.commands.specs.declared.Command.{Command}
 use Rattle.lines.specs.Lines.{command_held, held_of}
 use Rattle.lines.specs.Feeding.{fed_line}
-use Rattle.lines.specs.FeedingLaws.{next-byte}
+use Rattle.lines.proofs.FeedingLaws.{next-byte}
 use Rattle.lines.specs.declared.Splitter.{Splitter}
 use Rattle.text.specs.Write.{Wrote}
 use Rattle.text.specs.Digits.{output_bytes}

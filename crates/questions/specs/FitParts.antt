@@ -16,7 +16,7 @@ use Rattle.model.specs.Soundness.{fit_test, limits_kept}
 use Rattle.model.specs.FitLaws.{length-sends, place, Round, round-says, says-round, limits-round, round-limits}
 use Rattle.model.specs.SoundLaws.{Sound, sound-exist, all_map, all_snoc, passes-held}
 use Rattle.model.specs.CodeLaws.{total-snoc, held-profile, clash, pairs_clear, pairs-showing, pairs-iff}
-use Rattle.retrieval.specs.Tests.{same_test}
+use Rattle.retrieval.proofs.Tests.{same_test}
 use Rattle.model.specs.Soundness.{passes}
 use Rattle.model.specs.declared.Booking.{Booking}
 

@@ -5,7 +5,7 @@ use Rattle.std.proofs.Common.{sym, ap, ap₂, ◌∙◌, arith}
 use Rattle.laws.specs.Tests.{all}
 use Rattle.films.specs.Layout.{in_file, sizes_of}
 use Rattle.films.specs.Sizes.{sizes, Stored}
-use Rattle.films.specs.SizeLaws.{length-sizes}
+use Rattle.films.proofs.SizeLaws.{length-sizes}
 use Rattle.model.specs.Day as M
 use Rattle.model.specs.Day.{Setting, sending, ends, open_at, shows_at, exists, held_at, schedule_of, opened, reserved, held}
 use Rattle.model.specs.CodeLaws as M'

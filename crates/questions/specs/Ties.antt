@@ -5,7 +5,8 @@ use Rattle.films.specs.Layout.{Film, in_file, sizes_of}
 use Rattle.films.specs.Questions.{verdict}
 use Rattle.films.specs.Decode.{films_of}
 use Rattle.films.specs.Catalogue.{catalogue_of}
-use Rattle.films.specs.Lookup.{lookup_in, Says, lookup-says}
+use Rattle.films.specs.Lookup.{lookup_in, Says}
+use Rattle.films.proofs.LookupLaws.{lookup-says}
 use Rattle.films.specs.declared.types.Lookup.{Lookup}
 use Rattle.films.specs.declared.types.Lookup.TheVariants.{Found, Missing}
 use Rattle.model.specs.Day.{Setting}

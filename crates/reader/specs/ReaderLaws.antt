@@ -3,8 +3,9 @@ use Rattle.std.specs.Prelude.{◌≡◌, refl, cond, List, [], ◌∷◌, ◌++�
 use Rattle.std.proofs.Common.{ap, ◌∙◌, arith, suc-add, zero-add, eq-eqb, ne_eqb}
 use Rattle.laws.specs.Questions.{refusal, values_if}
 use Rattle.films.specs.Layout.{Film}
-use Rattle.films.specs.SizeLaws.{length-sizes}
-use Rattle.films.specs.Span.{span, length-span}
+use Rattle.films.proofs.SizeLaws.{length-sizes}
+use Rattle.films.specs.Span.{span}
+use Rattle.films.proofs.Span.{length-span}
 use Rattle.films.specs.Questions.{verdict, films_in, entry_number, entry_rounds}
 use Rattle.films.specs.Decode.{offset, film_at, films_of}
 use Rattle.reader.specs.Reader.{start_of, entry_of, entry_at, moved, step_of, values_at, entry_refusal, entry_values, Gives}

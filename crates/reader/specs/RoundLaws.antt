@@ -6,11 +6,13 @@ use Rattle.laws.specs.Questions.{refusal, values_if, Answers}
 use Rattle.limits.specs.Refusals.{no_film}
 use Rattle.films.specs.Layout.{in_file, sizes_of}
 use Rattle.films.specs.Sizes.{sizes, Stored}
-use Rattle.films.specs.SizeLaws.{length-sizes, get_or-sizes}
+use Rattle.films.proofs.SizeLaws.{length-sizes, get_or-sizes}
 use Rattle.films.specs.Questions.{verdict}
 use Rattle.films.specs.Decode.{films_of}
-use Rattle.films.specs.Catalogue.{catalogue_of, catalogue-verdict}
-use Rattle.films.specs.Lookup.{lookup_in, FoundAt, says-found, says-missing}
+use Rattle.films.specs.Catalogue.{catalogue_of}
+use Rattle.films.proofs.CatalogueLaws.{catalogue-verdict}
+use Rattle.films.specs.Lookup.{lookup_in, FoundAt}
+use Rattle.films.proofs.LookupLaws.{says-found, says-missing}
 use Rattle.films.specs.declared.types.Catalogue.{Catalogue}
 use Rattle.films.specs.declared.types.Lookup.{Lookup}
 use Rattle.films.specs.declared.types.Lookup.TheVariants.{Found, Missing}

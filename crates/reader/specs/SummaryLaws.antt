@@ -10,7 +10,7 @@ use Rattle.limits.specs.Bounds.{max_size}
 use Rattle.limits.specs.Refusals.{no_film}
 use Rattle.films.specs.Layout.{in_file, sizes_of}
 use Rattle.films.specs.Sizes.{size, sizes, Stored}
-use Rattle.films.specs.SizeLaws.{get_or-sizes, length-sizes}
+use Rattle.films.proofs.SizeLaws.{get_or-sizes, length-sizes}
 use Rattle.films.specs.Questions.{verdict}
 use Rattle.films.specs.Decode.{films_of}
 use Rattle.reader.specs.Summary.{mean, figures, figures_of, summary_questions, summary_of, summary_refusal, summary_values}

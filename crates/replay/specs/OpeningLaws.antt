@@ -5,7 +5,7 @@ use Rattle.std.proofs.Math.Path.{ap}
 use Prim.Native.Nat.{ℕ, zero, suc, ◌≤◌, min}
 use Rattle.laws.specs.Questions.{refusal}
 use Rattle.limits.specs.Bounds.{max_bookings}
-use Rattle.loss.specs.Rising.{loss-rising}
+use Rattle.loss.proofs.Rising.{loss-rising}
 use Rattle.model.specs.Day.{Setting, State}
 use Rattle.model.specs.Fit.{Fits}
 use Rattle.model.specs.Calls.{open_questions, open_with, open_call}

@@ -8,11 +8,4 @@ pub mod Carry
 pub mod Stored
 pub mod Round
 pub mod Sheet
-pub mod Theorems
-pub mod Larger
-pub mod Laws
-pub mod CarryLaws
-pub mod Minimality
-pub mod ReserveLaws
 pub mod SheetLaws
-pub mod Tests

@@ -2,8 +2,9 @@
 use Rattle.std.specs.Prelude.{◌≡◌, Bool, true, false, List, ℕ, suc, ◌+◌, ◌-◌, ◌≤◌, ◌<◌, min, length, get_or}
 use Rattle.std.proofs.Common.{sym, ◌∙◌, arith}
 use Rattle.std.proofs.Math.Decide.{dec_le}
-use Rattle.retrieval.specs.CarryLaws.{carry-drop, profile-at}
-use Rattle.retrieval.specs.Stored.{max_held, length-sends_at, drop_all, held-bound}
+use Rattle.retrieval.proofs.CarryLaws.{carry-drop, profile-at}
+use Rattle.retrieval.specs.Stored.{max_held}
+use Rattle.retrieval.proofs.Stored.{length-sends_at, drop_all, held-bound}
 use Rattle.load.specs.Basic.{Playable}
 use Rattle.load.specs.Stream.{sends_of, end_of, profile_of, open_in, holds_in, carry_from}
 use Rattle.load.specs.StreamLaws.{open-within, open-place, cond-most}

@@ -2,7 +2,7 @@
 use Rattle.std.specs.Prelude.{◌≡◌, List, ℕ, ◌+◌, ◌-◌, ◌*◌, ◌≤◌, ◌<◌, eqb, length, get_or, drop}
 use Rattle.std.proofs.Common.{sym, ap, ◌∙◌, arith}
 use Rattle.retrieval.specs.Carry.{carry}
-use Rattle.retrieval.specs.Minimality.{exists_by-test}
+use Rattle.retrieval.proofs.Minimality.{exists_by-test}
 use Rattle.load.specs.Stream.{no_stream, sends_of}
 use Rattle.load.specs.declared.stream.Stream.{Stream}
 use Rattle.rounds.specs.Table.{mark_rounds, mark_count, Marked}

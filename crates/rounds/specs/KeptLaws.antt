@@ -8,7 +8,8 @@ use Rattle.std.proofs.lemmas.Nat.{and_le_l, and_le_r}
 use borrow.Author.Tests.{le-leb, lt-leb, le-ltb, lt-ltb, leb-true, leb-false, ltb-true, eqb-true, eqb-false, ne_eqb}
 use Rattle.limits.specs.Bounds.{max_bookings}
 use Rattle.laws.specs.Tests.{left, right, below}
-use Rattle.loss.specs.Loss.{table, loss_at, table-length}
+use Rattle.loss.specs.Loss.{table, loss_at}
+use Rattle.loss.proofs.LossLaws.{table-length}
 use Rattle.load.specs.Stream.{end_of, open_in, shows_in, holds_in, open_count, reserved_in, held_in}
 use Rattle.load.specs.StreamLaws.{open-within, open-place, cond-most}
 use Rattle.load.specs.declared.stream.Stream.{Stream}

@@ -5,9 +5,10 @@ use Rattle.std.proofs.Common.{sym, ap, ap₂, arith}
 use Rattle.std.proofs.Math.Path.{fun_ext}
 use Rattle.std.proofs.lemmas.List.{length-replicate, get_or-replicate}
 use Rattle.laws.specs.Tests.{below}
-use Rattle.retrieval.specs.Stored.{sends_at, InRange, held-bound, length-sends_at, drop_all}
+use Rattle.retrieval.specs.Stored.{sends_at, InRange}
+use Rattle.retrieval.proofs.Stored.{held-bound, length-sends_at, drop_all}
 use Rattle.retrieval.specs.Sheet.{plus, held_in, Adds}
-use Rattle.retrieval.specs.SheetLaws.{plus-at, length-plus, held_in-whole, held_in-small, largest-zeros, room-largest}
+use Rattle.retrieval.proofs.SheetLaws.{plus-at, length-plus, held_in-whole, held_in-small, largest-zeros, room-largest}
 use Rattle.load.specs.Stream.{length_of, profile_of}
 use Rattle.load.specs.declared.stream.Stream.{Stream}
 use Rattle.search.specs.Fit.{query_of, memory_fits, fits_at, HeldRows}

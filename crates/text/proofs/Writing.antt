@@ -10,7 +10,7 @@ use lib.Seq.{set_split, take_at, drop_at, drop-drop, take-suc}
 use Rattle.limits.specs.Bounds.{max_digits}
 use Rattle.commands.specs.Bytes.{digit_zero}
 use Rattle.text.specs.Text.{decimal, field}
-use Rattle.text.specs.Digits.{decimal-more, tenth-length, field-length}
+use Rattle.text.proofs.Digits.{decimal-more, tenth-length, field-length}
 use Rattle.text.specs.Write.{placed, Wrote, max_text, buffer_after, place_after}
 use Rattle.text.specs.declared.Written.TheVariants.{Next, NoRoom}
 

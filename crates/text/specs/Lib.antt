@@ -2,4 +2,3 @@
 pub mod Text
 pub mod Write
 pub mod Digits
-pub mod Session

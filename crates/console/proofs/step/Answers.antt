@@ -1,6 +1,5 @@
 -- `console::step` meets its contract: the command carried out, and its text at the front of the buffer. Assumes nothing.
 use native.Mathlib.Omega.{arith}
-use borrow.Author.Rules.{rules}
 use Rattle.console.specs.Contract.{with_sheet}
 use Rattle.console.specs.Stepping.{step-none, step-few, step-done}
 use Rattle.console.proofs.step.Goals as goal

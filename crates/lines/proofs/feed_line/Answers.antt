@@ -4,7 +4,7 @@ use native.Mathlib.Omega.{arith}
 use borrow.Author.Tests.{not-true, not-false}
 use lib.ListN.{drop}
 use Rattle.lines.specs.declared.Splitter.{Splitter}
-use Rattle.lines.specs.FeedingLaws.{goes_on, rest_on, line-next, rest-next, line-ended, line-over, feeds-none, feeds-line}
+use Rattle.lines.proofs.FeedingLaws.{goes_on, rest_on, line-next, rest-next, line-ended, line-over, feeds-none, feeds-line}
 use Rattle.lines.proofs.feed_line.Goals as goal
 
 pub returns-then-bytes-from : goal.returns-then-bytes-from

@@ -3,7 +3,7 @@
 use Prim.Native.Nat.{◌-◌, ◌≤◌}
 use mathlib.Core.Path.{◌≡◌}
 use lib.ListN.{length, drop}
-use Rattle.lines.specs.FeedingLaws.{goes_on, rest_on}
+use Rattle.lines.proofs.FeedingLaws.{goes_on, rest_on}
 use Rattle.lines.proofs.feed_line.Given as goal
 
 abbrev pub invariant-loop-next : goal.invariant-loop-next

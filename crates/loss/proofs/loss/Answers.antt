@@ -2,7 +2,8 @@
 use native.Mathlib.Omega.{arith}
 use mathlib.Core.Path.{sym, refl}
 use lib.ListN.{get_or-eq_default}
-use Rattle.loss.specs.Loss.{table, table-length}
+use Rattle.loss.specs.Loss.{table}
+use Rattle.loss.proofs.LossLaws.{table-length}
 use Rattle.loss.proofs.loss.Goals as goal
 
 pub returns-then-k : goal.returns-then-k

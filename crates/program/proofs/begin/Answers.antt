@@ -4,7 +4,6 @@ use mathlib.Core.Bool.{false}
 use mathlib.Core.List.{List}
 use Prim.Native.Nat.{ℕ, ◌<◌}
 use native.Mathlib.Omega.{arith}
-use borrow.Author.Rules.{rules}
 use Rattle.program.specs.Program.{file_number}
 use Rattle.program.specs.Contract.{Beginning, beginning_of, begin_by}
 use Rattle.program.specs.declared.Begun.{Begun}
@@ -31,21 +30,16 @@ returns-then-number-eq0 c =
 
 pub returns-then-out-lt-OUTPUT_BYTES : goal.returns-then-out-lt-OUTPUT_BYTES
 returns-then-out-lt-OUTPUT_BYTES c =
-    let short = c in
-    let else = short in
-    let number = else.file_number-number in
-    let a = else.args in
+    let number = c.file_number-number in
+    let a = c.args in
     let n = number.result in
     same_number n (file_number a.file.now) a.out.now _ number.ensures
-    (refused_as _ 0 a.out.now _ c.refused.ensures (begin-short n a.out.now (some_number n else.if-number-eq0.false) short.if-out-lt-OUTPUT_BYTES.true))
+    (refused_as _ 0 a.out.now _ c.refused.ensures (begin-short n a.out.now (some_number n c.if-number-eq0.false) c.if-out-lt-OUTPUT_BYTES.true))
 
 pub returns : goal.returns
 returns c =
-    let wrote = c in
-    let long = wrote in
-    let else = long in
-    let number = else.file_number-number in
-    let a = else.args in
+    let number = c.file_number-number in
+    let a = c.args in
     let n = number.result in
     same_number n (file_number a.file.now) a.out.now _ number.ensures
-    (refused_as _ _ _ _ c.refused-2.ensures (begin-refused n a.out.now (some_number n else.if-number-eq0.false) long.if-out-lt-OUTPUT_BYTES.false _ _ wrote.write_first.ensures))
+    (refused_as _ _ _ _ c.refused-2.ensures (begin-refused n a.out.now (some_number n c.if-number-eq0.false) c.if-out-lt-OUTPUT_BYTES.false _ _ c.write_first.ensures))

@@ -1,6 +1,5 @@
 -- `program::file_number` meets its contract: the file's length is asked first, and then its own questions decide. Assumes nothing.
 use mathlib.Core.Path.{◌∙◌}
-use borrow.Author.Rules.{rules}
 use Rattle.program.specs.Laws.{number-long, number-own}
 use Rattle.program.proofs.file_number.Goals as goal
 
@@ -8,6 +7,4 @@ pub returns-then-file-gt-HALL_FILE : goal.returns-then-file-gt-HALL_FILE
 returns-then-file-gt-HALL_FILE c = number-long c.args.file.now c.if-file-gt-HALL_FILE.true
 
 pub returns : goal.returns
-returns c =
-    let else = c in
-    c.verdict.ensures ∙ number-own else.args.file.now else.if-file-gt-HALL_FILE.false
+returns c = c.verdict.ensures ∙ number-own c.args.file.now c.if-file-gt-HALL_FILE.false

@@ -1,7 +1,6 @@
 -- `program::serve_line` meets its contract: a line fed, and answered if it has ended. Assumes nothing.
-use borrow.Author.Rules.{rules}
 use Rattle.console.specs.Contract.{with_sheet}
-use Rattle.lines.specs.FeedingLaws.{feeds-none}
+use Rattle.lines.proofs.FeedingLaws.{feeds-none}
 use Rattle.program.specs.Laws.{served-none, served-one}
 use Rattle.program.proofs.serve_line.Goals as goal
 
@@ -19,14 +18,12 @@ returns-then-bytes-from c =
 
 pub returns : goal.returns
 returns c =
-    let line = c in
-    let fed = line in
-    let else = fed in
-    let a = else.args in
+    let a = c.args in
     let s = with_sheet a.s a.opens.now a.reserves.now a.helds.now in
-    let feeds = fed.feed_line-fed.ensures in
+    let fed = c.feed_line-fed in
+    let feeds = fed.ensures in
     record {
-      after = served-one a.file.now s a.line a.out.now a.bytes.now a.from else.if-bytes-from.false fed.feed_line-fed.result.splitter feeds.splitter _ line.answer_line-stepped.ensures;
+      after = served-one a.file.now s a.line a.out.now a.bytes.now a.from c.if-bytes-from.false fed.result.splitter feeds.splitter _ c.answer_line-stepped.ensures;
       splitter = feeds.splitter;
       rest = feeds.rest;
       moved = feeds.moved;

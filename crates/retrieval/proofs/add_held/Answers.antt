@@ -2,9 +2,11 @@ use mathlib.Core.Path.{◌≡◌, sym, ◌∙◌}
 use Prim.Native.Nat.{◌-◌, ◌+◌}
 use native.Mathlib.Omega.{arith}
 use lib.ListN.{get_or, length-set}
-use Rattle.retrieval.specs.Stored.{sends_at, length-sends_at, turn-carry}
+use Rattle.retrieval.specs.Stored.{sends_at}
+use Rattle.retrieval.proofs.Stored.{length-sends_at, turn-carry}
 use Rattle.retrieval.specs.Sheet.{held_in}
-use Rattle.retrieval.specs.SheetLaws.{onto_from, onto_from-none, turn-read, turn-write, length-held_in, window-held}
+use Rattle.retrieval.specs.SheetLaws.{onto_from}
+use Rattle.retrieval.proofs.SheetLaws.{onto_from-none, turn-read, turn-write, length-held_in, window-held}
 use Rattle.retrieval.proofs.add_held.Goals as goal
 
 pub loop-k-init : goal.loop-k-init

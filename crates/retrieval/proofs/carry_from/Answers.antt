@@ -1,7 +1,8 @@
 use mathlib.Core.Path.{◌≡◌}
 use Prim.Native.Nat.{◌-◌, ◌+◌}
 use native.Mathlib.Omega.{arith}
-use Rattle.retrieval.specs.Stored.{sends_at, length-sends_at, drop_all, turn-held, turn-carry, held-bound}
+use Rattle.retrieval.specs.Stored.{sends_at}
+use Rattle.retrieval.proofs.Stored.{length-sends_at, drop_all, turn-held, turn-carry, held-bound}
 use Rattle.retrieval.proofs.carry_from.Goals as goal
 
 pub loop-k-init : goal.loop-k-init

@@ -1,6 +1,6 @@
 -- `retrieval::exists` meets its contract: a schedule exists exactly if nothing is carried to before the first round.
 -- Assumes nothing.
-use Rattle.retrieval.specs.Minimality.{exists_by-test}
+use Rattle.retrieval.proofs.Minimality.{exists_by-test}
 use Rattle.retrieval.specs.Stored.{sends_at}
 use Rattle.retrieval.proofs.exists.Goals as goal
 

@@ -2,7 +2,7 @@
 use mathlib.Core.Path.{refl}
 use Prim.Native.Nat.{◌+◌, ◌-◌, ◌^◌}
 use native.Mathlib.Omega.{arith}
-use Rattle.retrieval.specs.Larger.{more}
+use Rattle.retrieval.proofs.LargerLaws.{more}
 use Rattle.retrieval.proofs.larger.Goals as goal
 
 pub overflow_mul-result : goal.overflow_mul-result

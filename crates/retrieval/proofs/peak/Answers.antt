@@ -5,8 +5,9 @@ use lib.ListN.{drop}
 use Rattle.laws.specs.Sums.{largest}
 use Rattle.films.specs.Sizes.{sizes}
 use Rattle.retrieval.specs.Carry.{carry, profile}
-use Rattle.retrieval.specs.CarryLaws.{just_in_time-helds, prefetch-peak}
-use Rattle.retrieval.specs.Stored.{sends_at, length-sizes, sizes-at, size_small, drop-sizes, turn-held, turn-carry, turn-peak, held-bound}
+use Rattle.retrieval.proofs.CarryLaws.{just_in_time-helds, prefetch-peak}
+use Rattle.retrieval.specs.Stored.{sends_at}
+use Rattle.retrieval.proofs.Stored.{length-sizes, sizes-at, size_small, drop-sizes, turn-held, turn-carry, turn-peak, held-bound}
 use Rattle.retrieval.proofs.peak.Goals as goal
 
 pub loop-i-init : goal.loop-i-init

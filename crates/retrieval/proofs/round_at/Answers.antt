@@ -1,8 +1,9 @@
 -- `retrieval::round_at` meets its contract: held is what the round sends and the carry of the rounds after it.
 -- Assumes nothing.
 use native.Mathlib.Omega.{arith}
-use Rattle.retrieval.specs.Round.{round-carry}
-use Rattle.retrieval.specs.Stored.{sends_at, length-sends_at}
+use Rattle.retrieval.proofs.RoundLaws.{round-carry}
+use Rattle.retrieval.specs.Stored.{sends_at}
+use Rattle.retrieval.proofs.Stored.{length-sends_at}
 use Rattle.retrieval.proofs.round_at.Goals as goal
 
 pub returns : goal.returns

@@ -3,7 +3,7 @@ use mathlib.Core.Path.{sym, ◌∙◌}
 use Prim.Native.Nat.{◌-◌}
 use native.Mathlib.Omega.{arith}
 use Rattle.films.specs.Sizes.{sizes}
-use Rattle.retrieval.specs.Stored.{sizes-at, size_small, sends-before, sends-after}
+use Rattle.retrieval.proofs.Stored.{sizes-at, size_small, sends-before, sends-after}
 use Rattle.retrieval.proofs.send_at.Goals as goal
 
 pub returns-then-t-p : goal.returns-then-t-p

@@ -1,6 +1,6 @@
 -- `schedule_cases::holdings` is safe: the catalogue of an accepted file says where the film's sizes stand. Assumes nothing.
 use borrow.Author.Rules.{rules}
-use Rattle.planning.specs.FileAnswers.{made-accepted, made_found}
+use Rattle.planning.proofs.FileAnswers.{made-accepted, made_found}
 use Rattle.schedule_cases.proofs.holdings.Goals as goal
 
 pub holds-requires : goal.holds-requires

@@ -2,7 +2,7 @@ use Prim.Native.Nat.{◌+◌, ◌/◌}
 use native.Mathlib.Omega.{arith}
 use Rattle.commands.specs.Bytes.{digit_zero}
 use Rattle.text.specs.Text.{decimal}
-use Rattle.text.specs.Digits.{decimal_digit, decimal-length, tenth-length}
+use Rattle.text.proofs.Digits.{decimal_digit, decimal-length, tenth-length}
 use Rattle.text.proofs.Writing.{wrote_one, wrote-inside, digits_more}
 use Rattle.text.proofs.+put_decimal.Goals as goal
 

@@ -4,7 +4,7 @@ use mathlib.Core.List.{◌++◌}
 use native.Mathlib.Omega.{arith}
 use lib.ListN.{length}
 use Rattle.text.specs.Text.{decimal, field}
-use Rattle.text.specs.Digits.{decimal-length, field-length}
+use Rattle.text.proofs.Digits.{decimal-length, field-length}
 use Rattle.text.proofs.Writing.{then-wrote, field_end}
 use Rattle.text.proofs.put_line.Goals as goal
 

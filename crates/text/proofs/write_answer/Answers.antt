@@ -4,7 +4,7 @@ use native.Mathlib.Omega.{arith}
 use lib.ListN.{length}
 use Rattle.text.specs.Write.{max_text}
 use Rattle.text.specs.Text.{answer_text}
-use Rattle.text.specs.Digits.{answer-fields}
+use Rattle.text.proofs.Digits.{answer-fields}
 use Rattle.text.proofs.Writing.{then-wrote, no_room, line_wrote}
 use Rattle.text.proofs.write_answer.Goals as goal
 

@@ -1,5 +1,4 @@
 -- `console::answer::write_first` meets its contract: there is room for any line. Assumes nothing.
-use borrow.Author.Rules.{rules}
 use Rattle.text.specs.Text.{answer_text}
 use Rattle.console.specs.Writing.{next-wrote, never-full}
 use Rattle.console.proofs.answer.write_first.Goals as goal
@@ -11,8 +10,8 @@ returns-in-Next c =
     let a = start.args in
     next-wrote a.out.now 0 (answer_text a.name a.round a.answer) start.requires wrote.result _ _
     c.in-Next.is
-    wrote.ensures.0
-    wrote.ensures.1
+    wrote.ensures.value
+    wrote.ensures.out_after
 
 pub returns-in-NoRoom : goal.returns-in-NoRoom
 returns-in-NoRoom c =
@@ -20,4 +19,4 @@ returns-in-NoRoom c =
     let start = c in
     let a = start.args in
     absurd
-    (never-full a.out.now 0 (answer_text a.name a.round a.answer) start.requires wrote.result c.in-NoRoom.is wrote.ensures.0)
+    (never-full a.out.now 0 (answer_text a.name a.round a.answer) start.requires wrote.result c.in-NoRoom.is wrote.ensures.value)

@@ -1,10 +1,5 @@
-use Prim.Native.Nat.{◌-◌, ◌≤◌}
 use mathlib.Core.Path.{◌≡◌, refl, ◌∙◌}
 use native.Mathlib.Omega.{arith}
-use borrow.Author.Rules.{rules}
-use lib.ListN.{length, take}
-use Rattle.text.specs.Text.{report_text}
-use Rattle.text.specs.Write.{Wrote}
 use Rattle.text.proofs.Writing.{wrote_none}
 use Rattle.console.specs.Writing.{report-end, lines_more}
 use Rattle.console.proofs.answer.write_lines.Goals as goal

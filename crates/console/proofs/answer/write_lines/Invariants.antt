@@ -1,14 +1,10 @@
 -- `console::answer::write_lines` meets its contract. The invariant: the first i lines are written, and `at` is the place after
 -- them. The measure is what is left of the lines. Assumes nothing.
 use Prim.Native.Nat.{◌-◌, ◌≤◌}
-use mathlib.Core.Path.{◌≡◌, refl, ◌∙◌}
-use native.Mathlib.Omega.{arith}
-use borrow.Author.Rules.{rules}
+use mathlib.Core.Path.{◌≡◌}
 use lib.ListN.{length, take}
 use Rattle.text.specs.Text.{report_text}
 use Rattle.text.specs.Write.{Wrote}
-use Rattle.text.proofs.Writing.{wrote_none}
-use Rattle.console.specs.Writing.{report-end, lines_more}
 use Rattle.console.proofs.answer.write_lines.Given as goal
 
 abbrev pub invariant-loop-i : goal.invariant-loop-i

@@ -1,7 +1,6 @@
 -- `console::answer::write_reply` meets its contract: the answer's line and after it the report, which have room. Assumes nothing.
 use native.Mathlib.Omega.{arith}
-use borrow.Author.Rules.{rules}
-use Rattle.text.specs.Digits.{answer-length}
+use Rattle.text.proofs.Digits.{answer-length}
 use Rattle.text.proofs.Writing.{then-wrote}
 use Rattle.console.proofs.answer.write_reply.Goals as goal
 

@@ -1,5 +1,4 @@
 -- `console::calls::carry_bad` meets its contract: 24, and everything as it was. Assumes nothing.
-use borrow.Author.Rules.{rules}
 use Rattle.console.specs.Carrying.{bad-carries}
 use Rattle.console.proofs.calls.carry_bad.Goals as goal
 

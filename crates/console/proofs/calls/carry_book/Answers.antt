@@ -1,5 +1,4 @@
 -- `console::calls::carry_book` meets its contract: it is the model's booking, with no line. Assumes nothing.
-use borrow.Author.Rules.{rules}
 use Rattle.console.specs.Carrying.{book-carries}
 use Rattle.console.proofs.calls.carry_book.Goals as goal
 
@@ -10,4 +9,4 @@ returns c =
     let a = call.args in
     let r = call.book-booked.result in
     rw (c.left.ensures, c.no_lines.ensures)
-    (book-carries a.file.now a.s a.opens.now a.reserves.now a.helds.now a.q r.answer r.day r.rows _ _ _ call.book-booked.ensures.0)
+    (book-carries a.file.now a.s a.opens.now a.reserves.now a.helds.now a.q r.answer r.day r.rows _ _ _ call.book-booked.ensures.leaves)

@@ -1,5 +1,4 @@
 -- `console::calls::carry_open` meets its contract: it is the model's opening, with no line. Assumes nothing.
-use borrow.Author.Rules.{rules}
 use Rattle.films.specs.Questions.{verdict}
 use Rattle.films.specs.Decode.{films_of}
 use Rattle.limits.specs.Bounds.{hall_places}
@@ -11,6 +10,6 @@ returns c file =
     let after = c in
     let call = after in
     let a = call.args in
-    let opened = call.«open» in
+    let opened = call.open-opened in
     rw (c.left.ensures, c.no_lines.ensures)
     (open-carries file a.s a.opens.now a.reserves.now a.helds.now a.rounds a.disk a.memory opened.result _ _ _ (opened.ensures (verdict file) (films_of file) a.s.rows hall_places))

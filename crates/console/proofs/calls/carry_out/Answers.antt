@@ -1,5 +1,4 @@
 -- `console::calls::carry_out` meets its contract, by cases on the command. Assumes nothing.
-use borrow.Author.Rules.{rules}
 use Rattle.console.proofs.calls.carry_out.Goals as goal
 
 pub returns-in-Open : goal.returns-in-Open

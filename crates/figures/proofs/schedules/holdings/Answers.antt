@@ -1,6 +1,6 @@
 -- `figures::schedules::holdings` is safe: the catalogue of an accepted file says where the film's sizes stand. Assumes nothing.
 use borrow.Author.Rules.{rules}
-use Rattle.planning.specs.FileAnswers.{made-accepted, made_found}
+use Rattle.planning.proofs.FileAnswers.{made-accepted, made_found}
 use Rattle.figures.proofs.schedules.holdings.Goals as goal
 
 pub show-requires : goal.show-requires

@@ -6,7 +6,8 @@ use Rattle.films.specs.Decode.{films_of}
 use Rattle.retrieval.specs.Schedule.{sends}
 use Rattle.retrieval.specs.LeastReserve.{Least, least_reserve}
 use Rattle.planning.specs.Answers.{reserve_questions, reserved}
-use Rattle.interface.specs.PlanCalls.{reserve_of, accepted-bytes}
+use Rattle.interface.specs.PlanCalls.{reserve_of}
+use Rattle.interface.proofs.PlanCalls.{accepted-bytes}
 use borrow.Author.Rules.{rules}
 use Rattle.interface.proofs.plan_calls.reserve_for.Goals as goal
 

@@ -4,7 +4,7 @@ use native.Mathlib.Omega.{arith}
 use lib.ListN.{drop}
 use Rattle.laws.specs.Sums.{largest}
 use Rattle.films.specs.Sizes.{sizes}
-use Rattle.retrieval.specs.Stored.{length-sizes, sizes-at, size_small, drop-sizes, turn-largest}
+use Rattle.retrieval.proofs.Stored.{length-sizes, sizes-at, size_small, drop-sizes, turn-largest}
 use Rattle.planning.proofs.reserves.largest.Goals as goal
 
 pub loop-i-init : goal.loop-i-init

@@ -8,10 +8,10 @@ use Rattle.laws.specs.Sums.{largest}
 use Rattle.films.specs.Sizes.{sizes}
 use Rattle.retrieval.specs.Schedule.{sends}
 use Rattle.retrieval.specs.LeastReserve.{Serves, least_reserve}
-use Rattle.retrieval.specs.ReserveLaws.{largest-serves, least-unique, least_reserve-least}
-use Rattle.retrieval.specs.Stored.{largest-small}
+use Rattle.retrieval.proofs.ReserveLaws.{largest-serves, least-unique, least_reserve-least}
+use Rattle.retrieval.proofs.Stored.{largest-small}
 use Rattle.planning.specs.Answers.{cap_questions}
-use Rattle.planning.specs.AnswerLaws.{cap-prefetch, cap-small, cap-passes, reserve-refused, reserve-bytes}
+use Rattle.planning.proofs.AnswerLaws.{cap-prefetch, cap-small, cap-passes, reserve-refused, reserve-bytes}
 use Rattle.planning.proofs.reserves.least.Goals as goal
 
 pub returns-then-p-gt-MAX_PREFETCH : goal.returns-then-p-gt-MAX_PREFETCH

@@ -1,6 +1,6 @@
 -- `planning::reserves::least_reserve` meets its contract: the file's questions, the film's, and the rest by `least`.
 -- Assumes nothing.
-use Rattle.planning.specs.FileAnswers.{made-verdict, made-accepted, made_found, made-missing, reserve-file, reserve-missing, reserve-found, reserved-said}
+use Rattle.planning.proofs.FileAnswers.{made-verdict, made-accepted, made_found, made-missing, reserve-file, reserve-missing, reserve-found, reserved-said}
 use Rattle.planning.proofs.reserves.least_reserve.Goals as goal
 
 pub returns-then-films-ne0 : goal.returns-then-films-ne0

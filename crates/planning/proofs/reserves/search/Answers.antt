@@ -1,7 +1,7 @@
 use mathlib.Core.Path.{◌≡◌}
 use Prim.Native.Nat.{◌+◌, ◌-◌, ◌/◌}
 use native.Mathlib.Omega.{arith}
-use Rattle.retrieval.specs.ReserveLaws.{serves_by-yes, serves_by-no, serves-above}
+use Rattle.retrieval.proofs.ReserveLaws.{serves_by-yes, serves_by-no, serves-above}
 use Rattle.retrieval.specs.Stored.{sends_at}
 use Rattle.planning.proofs.reserves.search.Goals as goal
 

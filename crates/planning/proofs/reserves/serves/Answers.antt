@@ -6,8 +6,8 @@ use lib.ListN.{drop}
 use Rattle.laws.specs.Sums.{largest}
 use Rattle.films.specs.Sizes.{sizes}
 use Rattle.retrieval.specs.Carry.{carry, profile}
-use Rattle.retrieval.specs.ReserveLaws.{serves_by-over, serves_by-test}
-use Rattle.retrieval.specs.Stored.{length-sizes, sizes-at, size_small, drop-sizes, turn-held, turn-carry, turn-peak, held-bound}
+use Rattle.retrieval.proofs.ReserveLaws.{serves_by-over, serves_by-test}
+use Rattle.retrieval.proofs.Stored.{length-sizes, sizes-at, size_small, drop-sizes, turn-held, turn-carry, turn-peak, held-bound}
 use Rattle.planning.proofs.reserves.serves.Goals as goal
 
 pub loop-i-init : goal.loop-i-init

@@ -7,9 +7,10 @@ use native.Mathlib.Omega.{arith}
 use lib.ListN.{length}
 use Rattle.limits.specs.Refusals.{prefetch_bound, reserve_bound, no_room, no_schedule}
 use Rattle.films.specs.Sizes.{sizes}
-use Rattle.retrieval.specs.CarryLaws.{length-just_in_time}
-use Rattle.retrieval.specs.Stored.{sends_at, length-sizes, length-sends_at}
-use Rattle.planning.specs.AnswerLaws.{plan-prefetch, plan-reserve, plan-room, plan-none, plan-passes, planned-refused, planned-written}
+use Rattle.retrieval.proofs.CarryLaws.{length-just_in_time}
+use Rattle.retrieval.specs.Stored.{sends_at}
+use Rattle.retrieval.proofs.Stored.{length-sizes, length-sends_at}
+use Rattle.planning.proofs.AnswerLaws.{plan-prefetch, plan-reserve, plan-room, plan-none, plan-passes, planned-refused, planned-written}
 use Rattle.planning.proofs.schedules.plan.Goals as goal
 
 pub returns-then-p-gt-MAX_PREFETCH : goal.returns-then-p-gt-MAX_PREFETCH

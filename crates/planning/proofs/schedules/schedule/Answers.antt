@@ -1,6 +1,6 @@
 -- `planning::schedules::schedule` meets its contract: the file's questions, the film's, and the rest by `plan`.
 -- Assumes nothing.
-use Rattle.planning.specs.FileAnswers.{made-verdict, made-accepted, made_found, made-missing, schedule-file, schedule-missing, schedule-found}
+use Rattle.planning.proofs.FileAnswers.{made-verdict, made-accepted, made_found, made-missing, schedule-file, schedule-missing, schedule-found}
 use Rattle.planning.proofs.schedules.schedule.Goals as goal
 
 pub returns-then-films-ne0 : goal.returns-then-films-ne0

@@ -4,8 +4,8 @@ use native.Mathlib.Omega.{arith}
 use lib.ListN.{drop}
 use Rattle.laws.specs.Sums.{sum}
 use Rattle.films.specs.Sizes.{sizes}
-use Rattle.retrieval.specs.Stored.{length-sizes, sizes-at, size_small, drop-sizes}
-use Rattle.planning.specs.Written.{turn-sum}
+use Rattle.retrieval.proofs.Stored.{length-sizes, sizes-at, size_small, drop-sizes}
+use Rattle.planning.proofs.Written.{turn-sum}
 use Rattle.planning.proofs.schedules.total.Goals as goal
 
 pub loop-i-init : goal.loop-i-init

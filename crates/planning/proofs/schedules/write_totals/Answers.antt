@@ -7,10 +7,12 @@ use Rattle.laws.specs.Sums.{sum}
 use Rattle.films.specs.Sizes.{sizes}
 use Rattle.retrieval.specs.Schedule.{totals}
 use Rattle.retrieval.specs.JustInTime.{just_in_time}
-use Rattle.retrieval.specs.CarryLaws.{length-just_in_time}
-use Rattle.retrieval.specs.Stored.{sends_at, length-sends_at}
-use Rattle.retrieval.specs.SheetLaws.{onto_from, onto_from-none, turn-write, written}
-use Rattle.planning.specs.Written.{sum-sends, totals-sum, turn-sent, start-rule, turn-rule}
+use Rattle.retrieval.proofs.CarryLaws.{length-just_in_time}
+use Rattle.retrieval.specs.Stored.{sends_at}
+use Rattle.retrieval.proofs.Stored.{length-sends_at}
+use Rattle.retrieval.specs.SheetLaws.{onto_from}
+use Rattle.retrieval.proofs.SheetLaws.{onto_from-none, turn-write, written}
+use Rattle.planning.proofs.Written.{sum-sends, totals-sum, turn-sent, start-rule, turn-rule}
 use Rattle.planning.proofs.schedules.write_totals.Goals as goal
 
 pub loop-k-init : goal.loop-k-init

@@ -4,7 +4,7 @@ use mathlib.Core.Path.{◌≡◌, sym, ap, ◌∙◌}
 use borrow.Author.Rules.{rules}
 use borrow.Author.Tests.{not-true, not-false, eq-eqb, ne_eqb}
 use Rattle.films.specs.Questions.{verdict}
-use Rattle.films.specs.Catalogue.{catalogue-verdict}
+use Rattle.films.proofs.CatalogueLaws.{catalogue-verdict}
 use Rattle.films.specs.declared.types.Catalogue.{Catalogue}
 use Rattle.questions.specs.Numbers.{standing_asks, day-rounds-small}
 use Rattle.questions.proofs.standing.standing_number.Goals as goal

@@ -9,8 +9,10 @@ use Rattle.films.specs.Questions.{verdict}
 use Rattle.films.specs.declared.types.Catalogue.{Catalogue}
 use Rattle.films.specs.declared.types.Lookup.{Lookup}
 use Rattle.films.specs.declared.types.Lookup.TheVariants.{Found}
-use Rattle.films.specs.Catalogue.{catalogue_of, catalogue-verdict}
-use Rattle.films.specs.Lookup.{lookup_in, FoundAt, says-found, says-missing}
+use Rattle.films.specs.Catalogue.{catalogue_of}
+use Rattle.films.proofs.CatalogueLaws.{catalogue-verdict}
+use Rattle.films.specs.Lookup.{lookup_in, FoundAt}
+use Rattle.films.proofs.LookupLaws.{says-found, says-missing}
 use Rattle.reader.specs.Summary as spec
 use Rattle.reader.specs.Summary.{figures_of, summary_questions, summary_of, summary_refusal, summary_values}
 use Rattle.reader.specs.declared.types.Summary.{Summary}

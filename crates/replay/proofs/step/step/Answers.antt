@@ -8,7 +8,7 @@ use lib.ListN.{length}
 use borrow.Author.Rules.{rules}
 use Rattle.limits.specs.Refusals.{command_form}
 use Rattle.films.specs.Questions.{verdict}
-use Rattle.films.specs.Catalogue.{catalogue-verdict}
+use Rattle.films.proofs.CatalogueLaws.{catalogue-verdict}
 use Rattle.films.specs.declared.types.Catalogue.{Catalogue}
 use Rattle.model.specs.Code.{state_of}
 use Rattle.questions.specs.Given.{setting_at}

@@ -3,7 +3,8 @@ use Prim.Native.Nat.{ℕ, ◌+◌, ◌≤◌}
 use mathlib.Core.Path.{ap}
 use native.Mathlib.Omega.{arith}
 use lib.Dec.{leb}
-use Rattle.loss.specs.Rising.{max_loss, loss-bound}
+use Rattle.loss.specs.Rising.{max_loss}
+use Rattle.loss.proofs.Rising.{loss-bound}
 use Rattle.search.proofs.disk.takes.Goals as goal
 
 pub overflow_add-result-2 : goal.overflow_add-result-2

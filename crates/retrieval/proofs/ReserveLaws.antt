@@ -4,13 +4,13 @@ use Rattle.std.proofs.Common.{sym, ◌∙◌, true≢false, arith, leb-true, le-
 use Rattle.std.proofs.Math.Decide.{dec_le}
 use Rattle.laws.specs.Tests.{left, right, join}
 use Rattle.laws.specs.Sums.{largest}
-use Rattle.retrieval.specs.Tests.{same_test, test-false}
+use Rattle.retrieval.proofs.Tests.{same_test, test-false}
 use Rattle.retrieval.specs.Schedule.{sends, Schedule, peak}
 use Rattle.retrieval.specs.JustInTime.{just_in_time, exists_by}
 use Rattle.retrieval.specs.LeastReserve.{Serves, Least, serves_by, first_from, least_reserve}
 use Rattle.retrieval.specs.Carry.{carry, profile}
-use Rattle.retrieval.specs.CarryLaws.{just_in_time-helds, prefetch, prefetch-peak, prefetch-largest, carry-mono, peak-mono, large-carry, large-profile, largest-peak, get_or-largest}
-use Rattle.retrieval.specs.Minimality.{just_in_time-schedule, schedule-carry, reads-peak, exists_by-carry}
+use Rattle.retrieval.proofs.CarryLaws.{just_in_time-helds, prefetch, prefetch-peak, prefetch-largest, carry-mono, peak-mono, large-carry, large-profile, largest-peak, get_or-largest}
+use Rattle.retrieval.proofs.Minimality.{just_in_time-schedule, schedule-carry, reads-peak, exists_by-carry}
 
 -- a schedule with a peak of at most cap exists exactly if the just-in-time one is such
 pub serves-iff : (xs : List ℕ) (cap b : ℕ) → Serves xs cap b ↔ ((carry b xs ≡ 0) × (largest (profile b xs) ≤ cap))

@@ -19,9 +19,11 @@ use Rattle.booking.specs.Contract as booking
 use Rattle.dropping.specs.Contract.{Drops}
 use Rattle.dropping.specs.declared.DropOutcome.{DropOutcome}
 use Rattle.interface.specs.Records.{loaded, stored}
-use Rattle.interface.specs.Same.{same-book, same_drop, same-play}
-use Rattle.interface.specs.Calls.{Gives, Leaves, leaves, same-day}
-use Rattle.interface.specs.Reply.{reply_of, reply-number}
+use Rattle.interface.proofs.Same.{same-book, same_drop, same-play}
+use Rattle.interface.specs.Calls.{Gives, Leaves}
+use Rattle.interface.proofs.Calls.{leaves, same-day}
+use Rattle.interface.specs.Reply.{reply_of}
+use Rattle.interface.proofs.ReplyLaws.{reply-number}
 use Rattle.interface.specs.Rounds.{Rounds}
 use Rattle.interface.specs.DeskCalls.{RepliesFirst, Books, BooksOver, DropsOver, PlaysOver}
 use Rattle.interface.specs.declared.reply.Reply.{Reply}

@@ -22,7 +22,7 @@ use Rattle.replay.specs.Contract.{Result, lent_to, result_of, result_by}
 use Rattle.replay.specs.declared.Replayed as run
 use Rattle.replay.specs.declared.journal.Entry.{Entry}
 use Rattle.interface.specs.Records.{loaded, stored}
-use Rattle.interface.specs.RecordLaws.{stored-front, stored_same}
+use Rattle.interface.proofs.RecordLaws.{stored-front, stored_same}
 use Rattle.interface.specs.ReplayCall.{told, ReplaysOver}
 use Rattle.interface.specs.declared.replay_call.Replayed.{Replayed}
 

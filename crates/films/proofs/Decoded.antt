@@ -8,12 +8,13 @@ use Rattle.std.proofs.Math.ListN.{length, drop}
 use Rattle.laws.specs.Words.{Bytes, bytes, bytes-number}
 use Rattle.films.specs.Layout.{Film, rounds, entries, all_sizes, size_bytes, round_sum, encode, Rising, Each, Valid}
 use Rattle.films.specs.Sizes.{sizes}
-use Rattle.films.specs.SizeLaws.{length-sizes, sizes-cut}
-use Rattle.films.specs.Span.{span, length-span}
+use Rattle.films.proofs.SizeLaws.{length-sizes, sizes-cut}
+use Rattle.films.specs.Span.{span}
+use Rattle.films.proofs.Span.{length-span}
 use Rattle.films.specs.Questions.{half, word, films_in, entry_number, entry_rounds, rounds_before, count_at, sizes_in, sizes_at, exceeds}
 use Rattle.films.specs.Decode.{offset, film_at, films_of}
 use Rattle.films.specs.Accepted.{Accepted}
-use Rattle.films.specs.FilmLaws.{rounds-rise, rounds-some, rounds-few, film-stored}
+use Rattle.films.proofs.FilmLaws.{rounds-rise, rounds-some, rounds-few, film-stored}
 
 no_bytes : Bytes []
 no_bytes k = omega arith

@@ -10,7 +10,7 @@ use Rattle.laws.specs.Questions.{refusal}
 use Rattle.limits.specs.Bounds.{max_bookings}
 use Rattle.films.specs.Questions.{verdict}
 use Rattle.films.specs.Decode.{films_of}
-use Rattle.loss.specs.Rising.{loss-rising}
+use Rattle.loss.proofs.Rising.{loss-rising}
 use Rattle.model.specs.Day.{Setting, State, schedule_of}
 use Rattle.model.specs.Fit.{Fits, Kept, Found, nowhere, at}
 use Rattle.model.specs.Questions.{has_name}
@@ -32,7 +32,8 @@ use Rattle.model.specs.declared.Line.{Line}
 use Rattle.model.specs.declared.Day.{Day}
 use Rattle.model.specs.declared.Request.{Request}
 use Rattle.interface.specs.Calls.{Leaves}
-use Rattle.interface.specs.Reply.{reply_of, reply-number, reply-day}
+use Rattle.interface.specs.Reply.{reply_of}
+use Rattle.interface.proofs.ReplyLaws.{reply-number, reply-day}
 use Rattle.interface.specs.DeskCalls.{Reports}
 use Rattle.interface.specs.AsMade.{Sheet, Lent, Opening, Made, books, drops, plays, call_in, reply_in, report_in, opened_by, left_by, left_after, Meets, InTurn, DayMade, standing_in, lines_made, lines_named, lent_of, state_in, setting_in, plain_replies, PlainAsMade, SafeAsMade, AsMade}
 use Rattle.interface.specs.declared.reply.Reply.{Reply}

@@ -3,11 +3,11 @@ use Rattle.std.specs.Prelude.{◌≡◌, refl, ◌↔◌, true, List, [], ◌∷
 use Rattle.std.proofs.Common.{sym, ap, ◌∙◌, suc-le-suc, zero-lt-suc, not-suc-le-zero, le_of_suc-le-suc, suc-mul, suc-ne-zero, arith, leb-true, le-leb, eqb-true, eq-eqb}
 use Rattle.std.proofs.Math.Nat.{suc_inj}
 use Rattle.laws.specs.Sums.{largest}
-use Rattle.retrieval.specs.Tests.{same_test}
+use Rattle.retrieval.proofs.Tests.{same_test}
 use Rattle.retrieval.specs.Schedule.{totals, Reads, Schedule, helds}
 use Rattle.retrieval.specs.JustInTime.{due, just_in_time, exists_by}
 use Rattle.retrieval.specs.Carry.{carry, profile}
-use Rattle.retrieval.specs.CarryLaws.{due-carry}
+use Rattle.retrieval.proofs.CarryLaws.{due-carry}
 
 -- one more round in front
 cons : (b a c x r : ℕ) (xs rs : List ℕ) → a ≤ r → r ≤ a + b → c + x ≤ r → Reads b r (c + x) xs rs → Reads b a c (x ∷ xs) (r ∷ rs)

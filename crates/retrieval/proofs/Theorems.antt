@@ -6,10 +6,11 @@ use Rattle.laws.specs.Sums.{largest}
 use Rattle.retrieval.specs.Schedule.{sends, totals, Schedule, helds}
 use Rattle.retrieval.specs.JustInTime.{just_in_time, exists_by}
 use Rattle.retrieval.specs.LeastReserve.{Least, least_reserve}
-use Rattle.retrieval.specs.CarryLaws.{just_in_time-helds, profile-mono}
-use Rattle.retrieval.specs.Minimality.{just_in_time-last, just_in_time-before, just_in_time-schedule, schedule-carry, reads-least, reads-helds, exists_by-iff, exists-paced}
-use Rattle.retrieval.specs.Round.{rule_round, round_of, round-rule}
-use Rattle.retrieval.specs.ReserveLaws.{schedule-mono, least-exists, least-unique, least_reserve-least}
+use Rattle.retrieval.proofs.CarryLaws.{just_in_time-helds, profile-mono}
+use Rattle.retrieval.proofs.Minimality.{just_in_time-last, just_in_time-before, just_in_time-schedule, schedule-carry, reads-least, reads-helds, exists_by-iff, exists-paced}
+use Rattle.retrieval.specs.Round.{rule_round, round_of}
+use Rattle.retrieval.proofs.RoundLaws.{round-rule}
+use Rattle.retrieval.proofs.ReserveLaws.{schedule-mono, least-exists, least-unique, least_reserve-least}
 
 -- "in the last round A = C"
 pub last-round : (b x : ℕ) (xs : List ℕ) → get_or (just_in_time b 0 (x ∷ xs)) (length xs) 0 ≡ get_or (totals 0 (x ∷ xs)) (length xs) 0

@@ -6,7 +6,7 @@ use Rattle.std.proofs.Math.ListN.{get_or-eq_default}
 use Rattle.laws.specs.Tests.{left, right, all-at}
 use Rattle.limits.specs.Bounds.{max_rounds, max_size}
 use Rattle.films.specs.Sizes.{size, sizes, Stored}
-use Rattle.films.specs.SizeLaws.{length-sizes, get_or-sizes}
+use Rattle.films.proofs.SizeLaws.{length-sizes, get_or-sizes}
 use Rattle.films.specs.Questions.{films_in, entry_rounds, rounds_before, sizes_in, sizes_at, rounds_in_range}
 use Rattle.films.specs.Decode.{offset}
 use Rattle.films.specs.Accepted.{Accepted}

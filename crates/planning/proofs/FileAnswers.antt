@@ -13,8 +13,10 @@ use Rattle.films.specs.Layout.{in_file, sizes_of}
 use Rattle.films.specs.Sizes.{sizes}
 use Rattle.films.specs.Decode.{films_of}
 use Rattle.films.specs.Questions.{verdict, file}
-use Rattle.films.specs.Catalogue.{catalogue_of, catalogue-verdict}
-use Rattle.films.specs.Lookup.{lookup_in, FoundAt, says-found, says-missing}
+use Rattle.films.specs.Catalogue.{catalogue_of}
+use Rattle.films.proofs.CatalogueLaws.{catalogue-verdict}
+use Rattle.films.specs.Lookup.{lookup_in, FoundAt}
+use Rattle.films.proofs.LookupLaws.{says-found, says-missing}
 use Rattle.films.specs.declared.types.Catalogue.{Catalogue}
 use Rattle.films.specs.declared.types.Lookup.{Lookup}
 use Rattle.films.specs.declared.types.Lookup.TheVariants.{Found, Missing}
@@ -24,7 +26,7 @@ use Rattle.planning.specs.declared.reserves.Reserve.{Reserve}
 use Rattle.planning.specs.declared.reserves.Reserve.TheVariants as reserve-as
 use Rattle.retrieval.specs.Schedule.{sends}
 use Rattle.retrieval.specs.LeastReserve.{Least, least_reserve}
-use Rattle.retrieval.specs.ReserveLaws.{least_reserve-least}
+use Rattle.retrieval.proofs.ReserveLaws.{least_reserve-least}
 use Rattle.planning.specs.Answers.{schedule_questions, scheduled, schedule_out, scheduled_by, scheduled_number, scheduled_values, plan_totals, Planned, cap_questions, reserve_questions, reserve_by, reserve_number, reserve_values, reserved}
 
 -- ---- a catalogue d and a lookup l in it, as the code has them

@@ -1,0 +1,10 @@
+pub mod AsMadeLaws
+pub mod Calls
+pub mod DeskLaws
+pub mod PlanCalls
+pub mod RecordLaws
+pub mod ReplayLaws
+pub mod ReplyLaws
+pub mod Rounds
+pub mod Same
+pub mod Unaltered

@@ -1,0 +1,10 @@
+pub mod CarryLaws
+pub mod LargerLaws
+pub mod Laws
+pub mod Minimality
+pub mod ReserveLaws
+pub mod RoundLaws
+pub mod SheetLaws
+pub mod Stored
+pub mod Tests
+pub mod Theorems
