@@ -16,8 +16,10 @@ use Rattle.model.specs.Fit as Fit
 use Rattle.model.specs.Fit.{first_of}
 use Rattle.model.specs.Calls.{day_in_range, rounds_in_range, limits_in_range, sheet_long, sound, book_questions, start_of, book_with, book_call}
 use Rattle.model.specs.Code.{state_of}
-use Rattle.model.specs.SoundLaws.{says-sound, Asked, asked, passed-at}
-use Rattle.model.specs.FirstFit.{Finds, search-finds}
+use Rattle.model.specs.SoundLaws.{Asked}
+use Rattle.model.proofs.SoundLaws.{says-sound, asked, passed-at}
+use Rattle.model.specs.FirstFit.{Finds}
+use Rattle.model.proofs.FirstFit.{search-finds}
 use Rattle.model.specs.declared.Booking.{Booking}
 use Rattle.model.specs.declared.Request.{Request}
 use Rattle.model.specs.declared.Day.{Day}

@@ -7,15 +7,9 @@ pub mod Contract
 pub mod PlainSession
 -- ---- The claim of every session, and document 01's own
 
-pub mod Claim
 pub mod Example
 -- ---- Laws for the code
 
-pub mod Laws
-pub mod Writing
-pub mod Carrying
-pub mod Stepping
 -- ---- Laws that the claim rests on
 
 pub mod PlainParts
-pub mod PlainLaws

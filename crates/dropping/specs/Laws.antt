@@ -15,7 +15,7 @@ use Rattle.model.specs.Day.{Setting, State}
 use Rattle.model.specs.Questions.{drop_own}
 use Rattle.model.specs.Calls.{standing, no_booking, without, rounds_in_range, day_in_range, limits_in_range, sheet_long, sound, drop_questions, drop_call}
 use Rattle.model.specs.Code.{state_of}
-use Rattle.model.specs.SoundLaws.{says-sound, sound-without}
+use Rattle.model.proofs.SoundLaws.{says-sound, sound-without}
 use Rattle.model.specs.declared.Booking.{Booking}
 use Rattle.model.specs.declared.Day.{Day}
 use Rattle.model.specs.declared.Answer.TheVariants.{Refused, Dropped}

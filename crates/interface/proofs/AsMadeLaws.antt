@@ -20,11 +20,13 @@ use Rattle.model.specs.Calls.{Outcome, standing, no_booking, open_questions, ope
 use Rattle.model.specs.Code.{state_of, day_of, opened_day, day_opened}
 use Rattle.model.specs.PlainDay.{PlainDay, at_first, plain_call, plain_after, ever_taken}
 use Rattle.model.specs.Expected.{arguments_of, expected}
-use Rattle.model.specs.FitLaws.{dec_fits}
-use Rattle.model.specs.Steps.{Accepted, Good, step}
-use Rattle.model.specs.Runs.{runs, good-first, opened-accepted, opened-expected}
-use Rattle.model.specs.Order.{open-number}
-use Rattle.model.specs.Safety.{lines_in, call_lines, lines_of_all, lines_for, Safe, safe}
+use Rattle.model.proofs.FitLaws.{dec_fits}
+use Rattle.model.specs.Steps.{Accepted, Good}
+use Rattle.model.proofs.Steps.{step}
+use Rattle.model.proofs.Runs.{runs, good-first, opened-accepted, opened-expected}
+use Rattle.model.proofs.Order.{open-number}
+use Rattle.model.specs.Safety.{lines_in}
+use Rattle.model.proofs.Safety.{call_lines, lines_of_all, lines_for, Safe, safe}
 use Rattle.model.specs.declared.Answer.{Answer}
 use Rattle.model.specs.declared.Answer.TheVariants.{Refused, Opened, Booked, Dropped, Played}
 use Rattle.model.specs.declared.Booking.{Booking}

@@ -4,7 +4,8 @@ use Rattle.std.proofs.Common.{sym, ◌∙◌, ap₂, subst, arith}
 use Rattle.limits.specs.Bounds.{max_bookings}
 use Rattle.model.specs.Day.{Setting, State}
 use Rattle.model.specs.Fit.{FitsAt}
-use Rattle.model.specs.FirstFit.{AnswersFirst, book-first}
+use Rattle.model.specs.FirstFit.{AnswersFirst}
+use Rattle.model.proofs.FirstFit.{book-first}
 use Rattle.model.specs.Answers.{number_of, values_of}
 use Rattle.model.specs.Calls.{Outcome, standing, book_call, drop_call, play_call}
 use Rattle.model.specs.Code.{state_of, day_of}

@@ -7,7 +7,8 @@ use Rattle.laws.specs.Questions.{refusal}
 use Rattle.limits.specs.Bounds.{max_bookings}
 use Rattle.model.specs.Day.{Setting, State, record_of}
 use Rattle.model.specs.Fit.{Fits, Found, nowhere, at}
-use Rattle.model.specs.SoundLaws.{Asked, asked}
+use Rattle.model.specs.SoundLaws.{Asked}
+use Rattle.model.proofs.SoundLaws.{asked}
 use Rattle.model.specs.Calls.{no_booking, sheet_long, open_questions}
 use Rattle.model.specs.PlainDay.{PlainDay, at_first, Arguments, booking, dropping, playing, others, plain_number, plain_start, plain_book, plain_drop, plain_play, plain_call, plain_after, ever_taken}
 use Rattle.model.specs.Expected.{other_places}

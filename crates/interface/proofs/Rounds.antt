@@ -16,8 +16,8 @@ use Rattle.limits.specs.Refusals.{no_room, day_rounds, day_limits, unsound, day_
 use Rattle.model.specs.Day.{Setting, State, opened, open_at}
 use Rattle.model.specs.Questions.{play_own}
 use Rattle.model.specs.Report.{line_of, lines_of, written}
-use Rattle.model.specs.SoundLaws.{file-held}
-use Rattle.model.specs.PlayLaws.{lines-count}
+use Rattle.model.proofs.SoundLaws.{file-held}
+use Rattle.model.proofs.PlayLaws.{lines-count}
 use Rattle.model.specs.Calls.{standing, limits_in_range, day_in_range, sound, play_questions, play_with, play_call}
 use Rattle.model.specs.Code.{state_of}
 use Rattle.model.specs.declared.Booking.{Booking}

@@ -18,7 +18,7 @@ use Rattle.model.specs.Day.{Setting, State, record_of, opened, reserved, held}
 use Rattle.model.specs.Fit.{Found, nowhere, at, first_of}
 use Rattle.model.specs.Questions.{file_question, has_name, book_own, drop_own, play_own}
 use Rattle.model.specs.Soundness.{sound_list, fit_test}
-use Rattle.model.specs.SoundLaws.{file-held, length_without, asked}
+use Rattle.model.proofs.SoundLaws.{file-held, length_without, asked}
 use Rattle.model.specs.Report.{lines_of, written}
 use Rattle.model.specs.Calls.{refused, limits_in_range, no_booking, without, worked_out, standing, day_in_range, sheet_long, sound, start_of, book_questions, book_with, book_call, drop_questions, drop_with, drop_call, play_questions, cabs_joined, play_with, play_call}
 use Rattle.model.specs.declared.Booking.{Booking}

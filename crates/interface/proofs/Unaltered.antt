@@ -8,7 +8,7 @@ use Rattle.model.specs.Day.{Setting, State}
 use Rattle.model.specs.Answers.{number_of}
 use Rattle.model.specs.Calls.{Outcome, book_questions, book_call, drop_call, play_call}
 use Rattle.model.specs.Code.{state_of, day_of}
-use Rattle.model.specs.Unchanged.{book-refused, book-nowhere, drop-refused, play-refused}
+use Rattle.model.proofs.Unchanged.{book-refused, book-nowhere, drop-refused, play-refused}
 use Rattle.model.specs.declared.Booking.{Booking}
 use Rattle.model.specs.declared.Day.{Day}
 use Rattle.model.specs.declared.Line.{Line}

@@ -1,12 +1,8 @@
 -- Days of film 1 beyond document 01's figures, by computation over the definitions: the shift change, where one film ends
 -- in the round in which the next begins, and a lent day whose sheet holds anything.
-use Rattle.std.specs.Prelude.{◌≡◌, refl, List, [], ◌∷◌, ◌++◌, replicate}
-use Rattle.std.specs.Int.Count.{ones, ones_in}
-use Rattle.loss.specs.Loss.{table}
-use Rattle.model.specs.Day.{State, open_at, shows_at, exists}
-use Rattle.model.specs.Questions.{record_questions, window_open, book_own, drop_own, play_own}
-use Rattle.model.specs.Soundness.{passes, round_kept, limits_kept, sound_list, fit_test}
-use Rattle.model.specs.Calls.{no_booking, rounds_in_range, day_in_range, limits_in_range, sheet_long, sound, open_questions, open_call, book_questions, start_of, book_call, drop_questions, drop_call, play_questions, play_call, Call, dropping, playing, call, answers, reports}
+use Rattle.std.specs.Prelude.{◌≡◌, List, [], ◌∷◌, ◌++◌, replicate}
+use Rattle.model.specs.Day.{State}
+use Rattle.model.specs.Calls.{no_booking, Call, dropping, playing, call, answers, reports}
 use Rattle.model.specs.Figures.{day, opened, book, line}
 use Rattle.model.specs.declared.Answer.TheVariants.{Refused, Booked, Dropped, Played}
 
@@ -52,17 +48,3 @@ pub record Examples : Type 0 where
   pub dropped : answers (day 141433 18) one_booked (dropping 2 ∷ dropping 1 ∷ []) ≡ Refused 19 ∷ Dropped ∷ []
   pub freed : (call (day 141433 18) one_booked (dropping 1)).state.records ≡ replicate 3 no_booking
   pub cleared : (call (day 141433 18) one_booked (dropping 1)).state.opens ≡ replicate 20 0 ++ 7 ∷ []
-
-pub examples : Examples
-unfolding table open_at shows_at exists record_questions window_open book_own drop_own play_own passes round_kept limits_kept sound_list fit_test rounds_in_range day_in_range limits_in_range sheet_long sound open_questions open_call book_questions start_of book_call drop_questions drop_call play_questions play_call ones ones_in
-examples =
-    record {
-      shift-answers = refl;
-      shift-reports = refl;
-      after-22 = refl;
-      opens-22 = refl;
-      helds-22 = refl;
-      dropped = refl;
-      freed = refl;
-      cleared = refl;
-    }

@@ -1,14 +1,10 @@
 -- The session of document 01, 'The program', by computation over the definitions. The loss is the papers' table. (The starred lines are
 -- crate `starred_lines`'s table.)
-use Rattle.std.specs.Prelude.{◌≡◌, refl, List, [], ◌∷◌, ℕ, replicate}
-use Rattle.std.specs.Int.Count.{ones, ones_in}
+use Rattle.std.specs.Prelude.{◌≡◌, List, [], ◌∷◌, ℕ, replicate}
 use Rattle.limits.specs.Bounds.{hall_rounds, hall_places}
-use Rattle.loss.specs.Loss.{table}
 use Rattle.model.specs.Loss.{loss_at}
-use Rattle.model.specs.Day.{Setting, State, open_at, shows_at, exists}
-use Rattle.model.specs.Questions.{record_questions, window_open, book_own, drop_own, play_own}
-use Rattle.model.specs.Soundness.{passes, round_kept, limits_kept, sound_list, fit_test}
-use Rattle.model.specs.Calls.{rounds_in_range, day_in_range, limits_in_range, sheet_long, sound, open_questions, open_call, book_questions, start_of, book_call, drop_questions, drop_call, play_questions, play_call, Call, booking, playing, answers, reports}
+use Rattle.model.specs.Day.{Setting, State}
+use Rattle.model.specs.Calls.{open_call, Call, booking, playing, answers, reports}
 use Rattle.model.specs.declared.Line.{Line}
 use Rattle.model.specs.declared.Answer.TheVariants.{Refused, Opened, Booked, Played}
 
@@ -67,12 +63,3 @@ pub record Figures : Type 0 where
   -- and its lines "1 6 0 6" and "1 6 8 12"
   pub reported : reports (day 141433 18) (opened 141433 18) session
       ≡ [] ∷ [] ∷ [] ∷ (line 1 6 0 6 ∷ line 7 7 7 7 ∷ []) ∷ (line 1 6 8 12 ∷ line 7 7 7 7 ∷ []) ∷ []
-
-pub figures : Figures
-unfolding table open_at shows_at exists record_questions window_open book_own drop_own play_own passes round_kept limits_kept sound_list fit_test rounds_in_range day_in_range limits_in_range sheet_long sound open_questions open_call book_questions start_of book_call drop_questions drop_call play_questions play_call ones ones_in
-figures =
-    record {
-      opens = refl;
-      answered = refl;
-      reported = refl;
-    }

@@ -29,14 +29,8 @@ pub mod QuestionExamples
 
 pub mod FitLaws
 pub mod SoundLaws
-pub mod PlayLaws
-pub mod PlacesLaws
 pub mod Steps
-pub mod Runs
-pub mod ReportLaws
 pub mod UnreadLaws
 -- ---- Laws for the code
 
-pub mod CabLaws
 pub mod SoundTest
-pub mod CodeLaws

@@ -1,13 +1,9 @@
 -- The last number that a question lets pass and the first that it does not, on small days of film 1, by computation over the
 -- definitions.
-use Rattle.std.specs.Prelude.{◌≡◌, refl, List, [], ◌∷◌, ℕ, replicate}
-use Rattle.std.specs.Int.Count.{ones, ones_in}
-use Rattle.loss.specs.Loss.{table}
+use Rattle.std.specs.Prelude.{◌≡◌, List, [], ◌∷◌, ℕ, replicate}
 use Rattle.model.specs.Loss.{loss_at}
-use Rattle.model.specs.Day.{Setting, State, open_at, shows_at, exists}
-use Rattle.model.specs.Questions.{record_questions, window_open, book_own, drop_own, play_own}
-use Rattle.model.specs.Soundness.{passes, round_kept, limits_kept, sound_list, fit_test}
-use Rattle.model.specs.Calls.{no_booking, rounds_in_range, day_in_range, limits_in_range, sheet_long, sound, open_questions, open_call, book_questions, start_of, book_call, drop_questions, drop_call, play_questions, play_call, booking, playing, call, answers}
+use Rattle.model.specs.Day.{Setting, State}
+use Rattle.model.specs.Calls.{no_booking, booking, playing, call, answers}
 use Rattle.model.specs.Figures.{film1, line}
 use Rattle.model.specs.declared.Answer.{Answer}
 use Rattle.model.specs.declared.Answer.TheVariants.{Refused, Booked, Played}
@@ -76,26 +72,3 @@ pub record QuestionExamples : Type 0 where
   -- "Is `now` below T? 23."
   pub last-round : (call (hall 7) (empty 7 6 1) (playing [])).answer ≡ Played 0 0
   pub day-over : (call (hall 7) (empty 7 7 1) (playing [])).answer ≡ Refused 23
-
-pub question-examples : QuestionExamples
-unfolding table open_at shows_at exists record_questions window_open book_own drop_own play_own passes round_kept limits_kept sound_list fit_test rounds_in_range day_in_range limits_in_range sheet_long sound open_questions open_call book_questions start_of book_call drop_questions drop_call play_questions play_call ones ones_in
-question-examples =
-    record {
-      prefetch-256 = refl;
-      prefetch-257 = refl;
-      reserve-most = refl;
-      reserve-more = refl;
-      cab-none = refl;
-      cab-last = refl;
-      no-schedule = refl;
-      last_fits = refl;
-      last-late = refl;
-      first-now = refl;
-      first_past = refl;
-      first-after-last = refl;
-      one_place = refl;
-      one-line-short = refl;
-      lines-enough = refl;
-      last-round = refl;
-      day-over = refl;
-    }

@@ -9,7 +9,7 @@ use Rattle.model.specs.Day.{Setting, State}
 use Rattle.model.specs.Calls.{open_questions, open_call, rounds_in_range, limits_in_range, sheet_long}
 use Rattle.model.specs.Code.{day_opened}
 use Rattle.model.specs.Answers.{number_of}
-use Rattle.model.specs.Unchanged.{open-empty}
+use Rattle.model.proofs.Unchanged.{open-empty}
 use Rattle.model.specs.declared.Day.{Day}
 use Rattle.model.specs.declared.Answer.TheVariants.{Refused, Opened}
 use Rattle.questions.specs.Numbers.{rounds_hold, limits_hold, sheet_holds, opening_asks}

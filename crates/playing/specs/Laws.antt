@@ -14,7 +14,7 @@ use Rattle.model.specs.Report.{lines_of, written}
 use Rattle.model.specs.Questions.{play_own}
 use Rattle.model.specs.Calls.{Outcome, at_round, day_in_range, rounds_in_range, limits_in_range, sound, play_questions, play_with, play_call, cabs_joined}
 use Rattle.model.specs.Code.{state_of, day_of}
-use Rattle.model.specs.PlayLaws.{lines-count}
+use Rattle.model.proofs.PlayLaws.{lines-count}
 use Rattle.model.specs.declared.Booking.{Booking}
 use Rattle.model.specs.declared.Day.{Day}
 use Rattle.model.specs.declared.Line.{Line}

@@ -5,7 +5,7 @@ use Rattle.std.proofs.lemmas.List.{set_at}
 use Rattle.limits.specs.Bounds.{max_bookings}
 use Rattle.model.specs.Day.{Setting, open_at, exists}
 use Rattle.model.specs.Report.{line_of, lines_of}
-use Rattle.model.specs.PlayLaws.{line_same}
+use Rattle.model.proofs.PlayLaws.{line_same}
 use Rattle.model.specs.declared.Booking.{Booking}
 use Rattle.model.specs.declared.Line.{Line}
 use Rattle.load.specs.Stream.{open_in}

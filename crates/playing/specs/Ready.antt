@@ -10,7 +10,8 @@ use Rattle.films.specs.declared.types.Catalogue.{Catalogue}
 use Rattle.model.specs.Day.{exists, ends}
 use Rattle.model.specs.Soundness.{passes}
 use Rattle.model.specs.Calls.{no_booking}
-use Rattle.model.specs.SoundLaws.{Sound, Passed, passes-held}
+use Rattle.model.specs.SoundLaws.{Sound, Passed}
+use Rattle.model.proofs.SoundLaws.{passes-held}
 use Rattle.model.specs.declared.Booking.{Booking}
 use Rattle.model.specs.declared.Day.{Day}
 use Rattle.load.specs.Basic.{Playable}

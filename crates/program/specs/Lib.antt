@@ -5,11 +5,7 @@
 pub mod Program
 pub mod Contract
 pub mod Run
+
 -- ---- The claim of every run, and document 01's own
 
-pub mod Claim
-pub mod Example
 -- ---- Laws
-
-pub mod Laws
-pub mod RunLaws

@@ -13,9 +13,12 @@ use Rattle.films.specs.Layout.{sizes_of}
 use Rattle.retrieval.specs.Carry.{profile}
 use Rattle.model.specs.Day.{Setting, sending, ends, open_at, exists, opened, reserved, held}
 use Rattle.model.specs.Soundness.{fit_test, limits_kept}
-use Rattle.model.specs.FitLaws.{length-sends, place, Round, round-says, says-round, limits-round, round-limits}
-use Rattle.model.specs.SoundLaws.{Sound, sound-exist, all_map, all_snoc, passes-held}
-use Rattle.model.specs.CodeLaws.{total-snoc, held-profile, clash, pairs_clear, pairs-showing, pairs-iff}
+use Rattle.model.specs.FitLaws.{Round}
+use Rattle.model.proofs.FitLaws.{length-sends, place, round-says, says-round, limits-round, round-limits}
+use Rattle.model.specs.SoundLaws.{Sound}
+use Rattle.model.proofs.SoundLaws.{sound-exist, all_map, all_snoc, passes-held}
+use Rattle.model.proofs.CodeLaws.{clash, pairs_clear, pairs-showing, pairs-iff}
+use Rattle.model.proofs.CodeLaws.{total-snoc, held-profile}
 use Rattle.retrieval.proofs.Tests.{same_test}
 use Rattle.model.specs.Soundness.{passes}
 use Rattle.model.specs.declared.Booking.{Booking}

@@ -4,7 +4,7 @@ use Rattle.std.specs.Prelude.{◌≡◌, List, ◌++◌, ℕ, drop}
 use Rattle.std.proofs.Common.{sym, ap, ◌∙◌}
 use Rattle.model.specs.Day.{Setting, opened, reserved, held}
 use Rattle.model.specs.Calls.{worked_out}
-use Rattle.model.specs.PlacesLaws.{per_round-same}
+use Rattle.model.proofs.PlacesLaws.{per_round-same}
 use Rattle.model.specs.declared.Booking.{Booking}
 use Rattle.load.specs.declared.stream.Stream.{Stream}
 use Rattle.rounds.specs.Sheet.{DaySheet}

@@ -8,7 +8,8 @@ use Rattle.laws.specs.Tests.{left, right, all, all-at, below}
 use Rattle.loss.specs.Loss.{loss_at}
 use Rattle.model.specs.Day.{Setting, cabs_at, exists}
 use Rattle.model.specs.Soundness.{names_differ, apart, round_kept, limits_kept, sound_list}
-use Rattle.model.specs.SoundTest.{basic, sound-test}
+use Rattle.model.specs.SoundTest.{basic}
+use Rattle.model.proofs.SoundTest.{sound-test}
 use Rattle.model.specs.declared.Booking.{Booking}
 use Rattle.load.specs.Stream.{no_stream, end_of}
 use Rattle.load.specs.Basic.{basic_of, ends_by, Bounded, Playable, Within, EachOf}

@@ -12,7 +12,8 @@ use Rattle.limits.specs.Bounds.{max_bookings, max_day}
 use Rattle.limits.specs.Refusals.{day_rounds, day_limits, no_room, unsound}
 use Rattle.films.specs.Questions.{verdict}
 use Rattle.model.specs.Soundness.{sound_list}
-use Rattle.model.specs.SoundLaws.{Sound, sound-says}
+use Rattle.model.specs.SoundLaws.{Sound}
+use Rattle.model.proofs.SoundLaws.{sound-says}
 use Rattle.model.specs.declared.Booking.{Booking}
 use Rattle.model.specs.declared.Day.{Day}
 use Rattle.questions.specs.Given.{setting_at}

@@ -11,10 +11,11 @@ use Rattle.model.specs.Fit as Fit
 use Rattle.model.specs.Fit.{search, first_of}
 use Rattle.model.specs.Soundness.{fit_test}
 use Rattle.model.specs.Calls.{per_round, worked_out}
-use Rattle.model.specs.FitLaws.{length-sends}
+use Rattle.model.proofs.FitLaws.{length-sends}
 use Rattle.model.specs.SoundLaws.{Sound}
-use Rattle.model.specs.CodeLaws.{per_round-at, clash}
-use Rattle.model.specs.PlacesLaws.{length-per_round}
+use Rattle.model.proofs.CodeLaws.{clash}
+use Rattle.model.proofs.CodeLaws.{per_round-at}
+use Rattle.model.proofs.PlacesLaws.{length-per_round}
 use Rattle.model.specs.declared.Booking.{Booking}
 use Rattle.model.specs.declared.Request.{Request}
 use Rattle.load.specs.Stream.{length_of, profile_of, clashes}

@@ -8,8 +8,9 @@ use Rattle.films.specs.Sizes.{sizes, Stored}
 use Rattle.films.proofs.SizeLaws.{length-sizes}
 use Rattle.model.specs.Day as M
 use Rattle.model.specs.Day.{Setting, sending, ends, open_at, shows_at, exists, held_at, schedule_of, opened, reserved, held}
-use Rattle.model.specs.CodeLaws as M'
-use Rattle.model.specs.CodeLaws.{clash, held-profile}
+use Rattle.model.proofs.CodeLaws as M'
+use Rattle.model.proofs.CodeLaws.{clash}
+use Rattle.model.proofs.CodeLaws.{held-profile}
 use Rattle.model.specs.SoundTest.{basic}
 use Rattle.model.specs.declared.Booking.{Booking}
 use Rattle.load.specs.Stream as L

@@ -10,12 +10,12 @@ use Rattle.model.specs.Day.{Setting, State}
 use Rattle.model.specs.Fit.{Fits}
 use Rattle.model.specs.Calls.{open_questions, open_with, open_call}
 use Rattle.model.specs.Answers.{number_of}
-use Rattle.model.specs.Order.{open-number}
+use Rattle.model.proofs.Order.{open-number}
 use Rattle.model.specs.Code.{state_of, day_of, opened_day}
 use Rattle.model.specs.PlainDay.{at_first}
 use Rattle.model.specs.Expected.{expected}
-use Rattle.model.specs.PlacesLaws.{same-state}
-use Rattle.model.specs.Runs.{opened-accepted, opened-expected}
+use Rattle.model.proofs.PlacesLaws.{same-state}
+use Rattle.model.proofs.Runs.{opened-accepted, opened-expected}
 use Rattle.model.specs.declared.Booking.{Booking}
 use Rattle.model.specs.declared.Day.{Day}
 use Rattle.model.specs.declared.Answer.TheVariants as A

@@ -10,9 +10,10 @@ use Rattle.model.specs.Calls.{rounds_in_range, day_in_range, limits_in_range, sh
 use Rattle.model.specs.Code.{state_of}
 use Rattle.model.specs.PlainDay.{PlainDay, at_first}
 use Rattle.model.specs.Expected.{expected}
-use Rattle.model.specs.FitLaws.{dec_fits}
-use Rattle.model.specs.Steps.{Accepted, Good, seen}
-use Rattle.model.specs.Runs.{good-first}
+use Rattle.model.proofs.FitLaws.{dec_fits}
+use Rattle.model.specs.Steps.{Accepted, Good}
+use Rattle.model.proofs.Steps.{seen}
+use Rattle.model.proofs.Runs.{good-first}
 use Rattle.model.specs.Claim.{InBetween}
 use Rattle.model.specs.declared.Booking.{Booking}
 use Rattle.model.specs.declared.Day.{Day}

@@ -13,8 +13,9 @@ use Rattle.model.specs.Code.{day_of}
 use Rattle.model.specs.PlainDay.{PlainDay, PlainOutcome, Arguments, at_first, plain_refused, plain_number, plain_start, plain_book, plain_drop, plain_play, plain_after, ever_taken}
 use Rattle.model.specs.PlainDay as P
 use Rattle.model.specs.Expected.{expected}
-use Rattle.model.specs.Steps.{Accepted, Good, Matches, step}
-use Rattle.model.specs.Runs.{good-first}
+use Rattle.model.specs.Steps.{Accepted, Good, Matches}
+use Rattle.model.proofs.Steps.{step}
+use Rattle.model.proofs.Runs.{good-first}
 use Rattle.model.specs.declared.Booking.{Booking}
 use Rattle.model.specs.declared.Request.{Request}
 use Rattle.model.specs.declared.Line.{Line}

@@ -12,7 +12,7 @@ use Rattle.model.specs.Day.{Setting, State}
 use Rattle.model.specs.Fit.{Found, nowhere, at}
 use Rattle.model.specs.Calls.{Outcome, refused, standing, book_questions, start_of, book_with, book_call, drop_questions, drop_with, drop_call, play_questions, play_with, play_call}
 use Rattle.model.specs.Code.{state_of, day_of}
-use Rattle.model.specs.PlacesLaws.{same-state}
+use Rattle.model.proofs.PlacesLaws.{same-state}
 use Rattle.model.specs.declared.Booking.{Booking}
 use Rattle.model.specs.declared.Request.{Request}
 use Rattle.model.specs.declared.Day.{Day}

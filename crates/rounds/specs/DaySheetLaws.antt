@@ -2,8 +2,8 @@
 use Rattle.std.specs.Prelude.{◌≡◌, refl, Bool, false, cond, List, [], ◌∷◌, ◌++◌, ℕ, suc, ◌+◌, ◌-◌, ◌*◌, ◌≤◌, ◌<◌, length, get_or, take, drop}
 use Rattle.std.proofs.Common.{sym, ap, ap₂, ◌∙◌, append_assoc, mul-suc, arith, length-append, length-drop, take_at, drop_at, get_or-take}
 use Rattle.model.specs.Calls.{per_round, worked_out}
-use Rattle.model.specs.PlacesLaws.{length-per_round}
-use Rattle.model.specs.CodeLaws.{per_round-at}
+use Rattle.model.proofs.PlacesLaws.{length-per_round}
+use Rattle.model.proofs.CodeLaws.{per_round-at}
 use Rattle.load.specs.Stream.{no_stream, end_of, open_in, holds_in, total, open_count, reserved_in, held_in}
 use Rattle.load.specs.StreamLaws.{open-early, open-late}
 use Rattle.load.specs.declared.stream.Stream.{Stream}

@@ -4,7 +4,7 @@ use Rattle.std.proofs.Common.{sym, ap, ◌∙◌, true≢false, mul-zero, mul-le
 use borrow.Rule.Slice.PartMut.{mid_of, put_mid}
 use Rattle.limits.specs.Bounds.{max_bookings, max_day}
 use Rattle.laws.specs.Tests.{left, right, join}
-use Rattle.model.specs.PlacesLaws.{length-per_round}
+use Rattle.model.proofs.PlacesLaws.{length-per_round}
 use Rattle.load.specs.Basic.{Playable}
 use Rattle.load.specs.Stream.{no_stream, end_of, open_in, holds_in}
 use Rattle.load.specs.StreamLaws.{open-place}

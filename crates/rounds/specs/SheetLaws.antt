@@ -4,7 +4,7 @@ use Rattle.std.proofs.Common.{sym, ap, ap₂, ◌∙◌, append-nil, append_asso
 use Rattle.std.proofs.lemmas.List.{set_split}
 use Rattle.std.proofs.Math.Seq.{append_snoc, drop-append-add}
 use Rattle.model.specs.Calls.{per_round, worked_out}
-use Rattle.model.specs.PlacesLaws.{length-per_round}
+use Rattle.model.proofs.PlacesLaws.{length-per_round}
 use Rattle.load.specs.Stream.{open_count, reserved_in, held_in}
 use Rattle.load.specs.declared.stream.Stream.{Stream}
 use Rattle.rounds.specs.Sums.{none, sums_in}

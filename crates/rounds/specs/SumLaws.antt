@@ -8,7 +8,7 @@ use Rattle.std.proofs.Math.Seq.{drop-length}
 use borrow.Author.Tests.{lt-ltb, le-ltb, le-leb, lt-leb}
 use Rattle.limits.specs.Bounds.{max_bookings, max_reserve}
 use Rattle.retrieval.specs.Stored.{max_held}
-use Rattle.model.specs.CodeLaws.{per_round-at}
+use Rattle.model.proofs.CodeLaws.{per_round-at}
 use Rattle.load.specs.Stream.{no_stream, open_in, profile_of, holds_in, open_count, reserved_in, held_in}
 use Rattle.load.specs.declared.stream.Stream.{Stream}
 use Rattle.rounds.specs.Rows.{open_between, active, head_words, head_of, helds_of, row_of, BlockOf}

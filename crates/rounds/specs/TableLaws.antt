@@ -6,8 +6,8 @@ use Rattle.std.proofs.lemmas.List.{set_split}
 use Rattle.std.proofs.Math.Seq.{take-append-add}
 use borrow.Rule.Slice.PartMut.{mid_of, put_mid, same_len_mid, mid_len}
 use Rattle.model.specs.Calls.{per_round}
-use Rattle.model.specs.PlacesLaws.{length-per_round}
-use Rattle.model.specs.CodeLaws.{per_round-at}
+use Rattle.model.proofs.PlacesLaws.{length-per_round}
+use Rattle.model.proofs.CodeLaws.{per_round-at}
 use Rattle.load.specs.Stream.{no_stream}
 use Rattle.load.specs.declared.stream.Stream.{Stream}
 use Rattle.rounds.specs.Table.{rows_of, mark_count, mark_of, marks_of, MarkedAt, Marked}

@@ -2,6 +2,4 @@
 pub mod Fit
 pub mod Search
 pub mod FitLaws
-pub mod WindowLaws
-pub mod StepLaws
 pub mod ProfileLaws

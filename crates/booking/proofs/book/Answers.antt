@@ -5,7 +5,7 @@ use borrow.Author.Rules.{rules}
 use lib.ListN.{length}
 use Rattle.laws.specs.Questions.{refusal}
 use Rattle.model.specs.Code.{state_of}
-use Rattle.model.specs.FirstFit.{book-first}
+use Rattle.model.proofs.FirstFit.{book-first}
 use Rattle.questions.specs.Given.{setting_at}
 use Rattle.booking.specs.Contract.{book_asks}
 use Rattle.questions.specs.Standing.{standing-first}

@@ -1,7 +1,7 @@
 -- `console::step` meets its contract: the command carried out, and its text at the front of the buffer. Assumes nothing.
 use native.Mathlib.Omega.{arith}
 use Rattle.console.specs.Contract.{with_sheet}
-use Rattle.console.specs.Stepping.{step-none, step-few, step-done}
+use Rattle.console.proofs.Stepping.{step-none, step-few, step-done}
 use Rattle.console.proofs.step.Goals as goal
 
 pub returns-then-out-lt-OUTPUT_BYTES : goal.returns-then-out-lt-OUTPUT_BYTES

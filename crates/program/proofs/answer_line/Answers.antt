@@ -1,7 +1,7 @@
 -- `program::answer_line` meets its contract: a line that has ended is answered. Assumes nothing.
 use borrow.Author.Tests.{not-true, not-false}
 use Rattle.console.specs.Contract.{with_sheet}
-use Rattle.program.specs.Laws.{answered-none, answered-one}
+use Rattle.program.proofs.Laws.{answered-none, answered-one}
 use Rattle.program.proofs.answer_line.Goals as goal
 
 pub returns-then-not-line : goal.returns-then-not-line

@@ -7,7 +7,7 @@ use native.Mathlib.Omega.{arith}
 use Rattle.program.specs.Program.{file_number}
 use Rattle.program.specs.Contract.{Beginning, beginning_of, begin_by}
 use Rattle.program.specs.declared.Begun.{Begun}
-use Rattle.program.specs.Laws.{begin-accepted, begin-short, begin-refused}
+use Rattle.program.proofs.Laws.{begin-accepted, begin-short, begin-refused}
 use Rattle.program.proofs.begin.Goals as goal
 
 -- the number found is the file's

@@ -1,6 +1,6 @@
 -- `program::file_number` meets its contract: the file's length is asked first, and then its own questions decide. Assumes nothing.
 use mathlib.Core.Path.{◌∙◌}
-use Rattle.program.specs.Laws.{number-long, number-own}
+use Rattle.program.proofs.Laws.{number-long, number-own}
 use Rattle.program.proofs.file_number.Goals as goal
 
 pub returns-then-file-gt-HALL_FILE : goal.returns-then-file-gt-HALL_FILE

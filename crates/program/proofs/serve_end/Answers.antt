@@ -1,6 +1,6 @@
 -- `program::serve_end` meets its contract: a line that is begun is answered. Assumes nothing.
 use Rattle.console.specs.Contract.{with_sheet}
-use Rattle.program.specs.Laws.{ended-none, ended-one}
+use Rattle.program.proofs.Laws.{ended-none, ended-one}
 use Rattle.program.proofs.serve_end.Goals as goal
 
 pub returns-then-line : goal.returns-then-line

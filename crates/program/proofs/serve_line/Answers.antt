@@ -1,7 +1,7 @@
 -- `program::serve_line` meets its contract: a line fed, and answered if it has ended. Assumes nothing.
 use Rattle.console.specs.Contract.{with_sheet}
 use Rattle.lines.proofs.FeedingLaws.{feeds-none}
-use Rattle.program.specs.Laws.{served-none, served-one}
+use Rattle.program.proofs.Laws.{served-none, served-one}
 use Rattle.program.proofs.serve_line.Goals as goal
 
 pub returns-then-bytes-from : goal.returns-then-bytes-from

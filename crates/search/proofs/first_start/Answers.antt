@@ -13,7 +13,7 @@ use Rattle.retrieval.specs.Stored.{InRange}
 use Rattle.model.specs.Fit.{first_of}
 use Rattle.search.specs.Fit.{HeldRows, query_of, fits_at, answer_of}
 use Rattle.search.specs.declared.Found.{Found}
-use Rattle.search.specs.ProfileLaws.{adds-zeros, worked-rows, worked-fits}
+use Rattle.search.proofs.ProfileLaws.{adds-zeros, worked-rows, worked-fits}
 use Rattle.search.proofs.first_start.Goals as goal
 
 -- the stream is not longer than the array

@@ -1,4 +1,3 @@
-
 use borrow.Author.Rules.{rules}
 use Rattle.booking.proofs.append.append.Reads as reads
 use Rattle.booking.proofs.append.append.Lts as lts

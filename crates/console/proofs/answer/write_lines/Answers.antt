@@ -1,7 +1,7 @@
 use mathlib.Core.Path.{◌≡◌, refl, ◌∙◌}
 use native.Mathlib.Omega.{arith}
 use Rattle.text.proofs.Writing.{wrote_none}
-use Rattle.console.specs.Writing.{report-end, lines_more}
+use Rattle.console.proofs.Writing.{report-end, lines_more}
 use Rattle.console.proofs.answer.write_lines.Goals as goal
 
 pub loop-i-init : goal.loop-i-init

@@ -1,6 +1,6 @@
 -- `console::answer::write_next` meets its contract: there is room for any line. Assumes nothing.
 use Rattle.text.specs.Text.{line_text}
-use Rattle.console.specs.Writing.{next-wrote, never-full}
+use Rattle.console.proofs.Writing.{next-wrote, never-full}
 use Rattle.console.proofs.answer.write_next.Goals as goal
 
 pub returns-in-Next : goal.returns-in-Next

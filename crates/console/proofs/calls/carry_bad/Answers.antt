@@ -1,5 +1,5 @@
 -- `console::calls::carry_bad` meets its contract: 24, and everything as it was. Assumes nothing.
-use Rattle.console.specs.Carrying.{bad-carries}
+use Rattle.console.proofs.Carrying.{bad-carries}
 use Rattle.console.proofs.calls.carry_bad.Goals as goal
 
 pub returns : goal.returns

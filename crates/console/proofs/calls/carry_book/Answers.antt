@@ -1,5 +1,5 @@
 -- `console::calls::carry_book` meets its contract: it is the model's booking, with no line. Assumes nothing.
-use Rattle.console.specs.Carrying.{book-carries}
+use Rattle.console.proofs.Carrying.{book-carries}
 use Rattle.console.proofs.calls.carry_book.Goals as goal
 
 pub returns : goal.returns

@@ -1,5 +1,5 @@
 -- `console::calls::carry_drop` meets its contract: it is the model's drop, with no line. Assumes nothing.
-use Rattle.console.specs.Carrying.{drop-carries}
+use Rattle.console.proofs.Carrying.{drop-carries}
 use Rattle.console.proofs.calls.carry_drop.Goals as goal
 
 pub returns : goal.returns

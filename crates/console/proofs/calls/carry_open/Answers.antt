@@ -2,7 +2,7 @@
 use Rattle.films.specs.Questions.{verdict}
 use Rattle.films.specs.Decode.{films_of}
 use Rattle.limits.specs.Bounds.{hall_places}
-use Rattle.console.specs.Carrying.{open-carries}
+use Rattle.console.proofs.Carrying.{open-carries}
 use Rattle.console.proofs.calls.carry_open.Goals as goal
 
 pub returns : goal.returns

@@ -1,5 +1,5 @@
 -- `console::calls::carry_play` meets its contract: it is the model's play, on any sheet. Assumes nothing.
-use Rattle.console.specs.Carrying.{play-carries}
+use Rattle.console.proofs.Carrying.{play-carries}
 use Rattle.console.proofs.calls.carry_play.Goals as goal
 
 pub returns : goal.returns

@@ -1,4 +1,4 @@
-use Rattle.interface.specs.DeskLaws.{book-over}
+use Rattle.interface.proofs.DeskLaws.{book-over}
 use Rattle.lent.proofs.desk.playback_book.Goals as goal
 
 pub returns : goal.returns

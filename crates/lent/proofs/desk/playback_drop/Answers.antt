@@ -1,4 +1,4 @@
-use Rattle.interface.specs.DeskLaws.{drop-over}
+use Rattle.interface.proofs.DeskLaws.{drop-over}
 use Rattle.lent.proofs.desk.playback_drop.Goals as goal
 
 pub returns : goal.returns

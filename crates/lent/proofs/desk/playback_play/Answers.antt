@@ -1,4 +1,4 @@
-use Rattle.interface.specs.DeskLaws.{play-over}
+use Rattle.interface.proofs.DeskLaws.{play-over}
 use Rattle.lent.proofs.desk.playback_play.Goals as goal
 
 pub returns : goal.returns

@@ -1,4 +1,4 @@
-use Rattle.interface.specs.ReplayLaws.{replay-over}
+use Rattle.interface.proofs.ReplayLaws.{replay-over}
 use Rattle.lent.proofs.desk.playback_replay.Goals as goal
 
 pub returns : goal.returns

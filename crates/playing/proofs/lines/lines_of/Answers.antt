@@ -58,7 +58,7 @@ loop-i-preserved c =
     let ex = row-exists a.file.now a.c a.day a.rows start.requires (omega arith) l.i (omega arith) x made.ensures in
     let test : open_at S t b ≡ c.open_in.result = tied-open S a.file.now b x tied t ∙ sym c.open_in.ensures in
     elim c.if-open_in.branch [
-      then-open_in w ↦
+      | then-open_in w ↦
           let yes : open_at S t b ≡ true = test ∙ w.if-open_in.true in
           let line = w.line_of-line.ensures ∙ line-tied S a.file.now t b x tied ex (sym (tied-open S a.file.now b x tied t) ∙ yes) in
           let turn = report-open S t a.rows l.i no_booking (omega arith) l.lines l.k w.line_of-line.result yes line (omega arith) l.invariant.2 l.invariant.3 in

@@ -1,6 +1,6 @@
 -- `search::cabs::after_clash` meets its contract, by its tests: a cab in common, and a common round. Assumes nothing.
 use native.Mathlib.Omega.{arith}
-use Rattle.search.specs.FitLaws.{after-apart, after-meets, after-misses}
+use Rattle.search.proofs.FitLaws.{after-apart, after-meets, after-misses}
 use Rattle.search.proofs.cabs.after_clash.Goals as goal
 
 pub returns-then-common-eq0 : goal.returns-then-common-eq0

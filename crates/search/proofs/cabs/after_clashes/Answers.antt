@@ -1,7 +1,7 @@
 use mathlib.Core.Path.{sym, ◌∙◌}
 use native.Mathlib.Omega.{arith}
 use Rattle.load.specs.Stream.{no_stream}
-use Rattle.search.specs.FitLaws.{clashes-stop, clashes-next, clashes-end, ends_at}
+use Rattle.search.proofs.FitLaws.{clashes-stop, clashes-next, clashes-end, ends_at}
 use Rattle.search.proofs.cabs.after_clashes.Goals as goal
 
 pub after_clash-next-requires : goal.after_clash-next-requires

@@ -3,7 +3,7 @@ use mathlib.Core.Path.{◌≡◌, sym, ◌∙◌}
 use native.Mathlib.Omega.{arith}
 use borrow.Author.Rules.{rules}
 use Rattle.search.specs.Fit.{disk_fits}
-use Rattle.search.specs.FitLaws.{pass-more}
+use Rattle.search.proofs.FitLaws.{pass-more}
 use Rattle.search.proofs.disk.free_from.Goals as goal
 
 pub loop-r-init : goal.loop-r-init

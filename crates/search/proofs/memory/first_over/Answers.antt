@@ -3,7 +3,7 @@ use mathlib.Core.Path.{sym, ◌∙◌}
 use native.Mathlib.Omega.{arith}
 use borrow.Author.Rules.{rules}
 use borrow.Author.Count.{below_more}
-use Rattle.search.specs.FitLaws.{fewer-held}
+use Rattle.search.proofs.FitLaws.{fewer-held}
 use Rattle.search.proofs.memory.first_over.Goals as goal
 
 pub loop-j-init : goal.loop-j-init

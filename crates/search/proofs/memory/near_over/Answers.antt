@@ -2,7 +2,7 @@
 use Prim.Native.Nat.{◌+◌, ◌-◌}
 use mathlib.Core.Path.{sym, ◌∙◌}
 use native.Mathlib.Omega.{arith}
-use Rattle.search.specs.FitLaws.{fewer-held}
+use Rattle.search.proofs.FitLaws.{fewer-held}
 use Rattle.search.proofs.memory.near_over.Goals as goal
 
 pub returns-then-n-near : goal.returns-then-n-near

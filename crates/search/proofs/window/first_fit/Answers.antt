@@ -8,8 +8,8 @@ use Rattle.search.specs.Search.{Skips, Tells}
 use Rattle.search.specs.declared.window.Candidate.{Candidate}
 use Rattle.search.specs.declared.window.Step.{Step}
 use Rattle.search.specs.declared.window.Step.TheVariants.{Next}
-use Rattle.search.specs.StepLaws.{none-on}
-use Rattle.search.specs.WindowLaws.{first_found, none_found}
+use Rattle.search.proofs.StepLaws.{none-on}
+use Rattle.search.proofs.WindowLaws.{first_found, none_found}
 use Rattle.search.proofs.window.first_fit.Goals as goal
 
 -- what the candidate that did not fit rules out

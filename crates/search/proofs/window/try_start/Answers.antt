@@ -5,8 +5,8 @@ use native.Mathlib.Omega.{arith}
 use lib.ListN.{take}
 use Rattle.load.specs.Stream.{length_of}
 use Rattle.search.specs.Fit.{query_of}
-use Rattle.search.specs.FitLaws.{fewer-held, fewer-disk}
-use Rattle.search.specs.StepLaws.{skip-memory, skip-disk, clear-all, skip-cabs, fits-now}
+use Rattle.search.proofs.FitLaws.{fewer-held, fewer-disk}
+use Rattle.search.proofs.StepLaws.{skip-memory, skip-disk, clear-all, skip-cabs, fits-now}
 use Rattle.search.proofs.window.try_start.Goals as goal
 
 pub near_over-near-requires : goal.near_over-near-requires

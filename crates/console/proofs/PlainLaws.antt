@@ -19,8 +19,9 @@ use Rattle.model.specs.Code.{day_of, opened_day}
 use Rattle.model.specs.PlainDay.{PlainDay, PlainOutcome, at_first, plain_call}
 use Rattle.model.specs.Expected.{arguments_of, lent_report, other_places, expected}
 use Rattle.model.specs.Loss.{loss-rising}
-use Rattle.model.specs.Steps.{Accepted, Good, step}
-use Rattle.model.specs.Runs.{good-first, opened-accepted, opened-expected}
+use Rattle.model.specs.Steps.{Accepted, Good}
+use Rattle.model.proofs.Steps.{step}
+use Rattle.model.proofs.Runs.{good-first, opened-accepted, opened-expected}
 use Rattle.model.specs.declared.Booking.{Booking}
 use Rattle.model.specs.declared.Request.{Request}
 use Rattle.model.specs.declared.Day.{Day}
@@ -34,7 +35,8 @@ use Rattle.commands.specs.declared.Command.TheVariants.{Open, Book, Drop, Play, 
 use Rattle.text.specs.Text.{answer_text, report_text}
 use Rattle.console.specs.Session.{SessionState, start_session, at_start, lent_by, left_in, blank_report, outcome_of, day_after, state_after, name_in, lines_told, text_of}
 use Rattle.console.specs.PlainSession.{PlainSession, unopened, on_day, PlainTold, round_of, refused_in, open_number, plain_open, number_before, plain_command, plain_text}
-use Rattle.console.specs.PlainParts.{plain-count, told_same, Places, start-places, worked-places, open-number, open-short}
+use Rattle.console.specs.PlainParts.{Places}
+use Rattle.console.proofs.PlainParts.{plain-count, told_same, start-places, worked-places, open-number, open-short}
 
 -- ---- Where a session stands
 

@@ -7,8 +7,8 @@ use Rattle.retrieval.proofs.Laws.{just_in_time-helds}
 use Rattle.model.specs.Day.{Setting, total, sending, open_at, schedule_of, held_at}
 use Rattle.model.specs.Calls.{per_round}
 use Rattle.model.specs.declared.Booking.{Booking}
-unfoldable pub use Rattle.model.specs.CabLaws.{clash}
-pub use Rattle.model.specs.CabLaws.{pairs_clear, pairs-showing, pairs-iff}
+unfoldable pub use Rattle.model.proofs.CabLaws.{clash}
+pub use Rattle.model.proofs.CabLaws.{pairs_clear, pairs-showing, pairs-iff}
 
 -- one more booking: its load is added to the standing ones'
 pub total-snoc : (f : Booking → ℕ) (bs : List Booking) (b : Booking) → total f (bs ++ (b ∷ [])) ≡ total f bs + f b

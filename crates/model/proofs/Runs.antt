@@ -11,8 +11,9 @@ use Rattle.model.specs.Calls.{rounds_in_range, limits_in_range, sheet_long, open
 use Rattle.model.specs.PlainDay.{PlainDay, at_first, Arguments, plain_call, plain_answers, plain_reports, plain_after, ever_taken}
 use Rattle.model.specs.Loss.{Rising}
 use Rattle.model.specs.Expected.{arguments_of, all_written, expected}
-use Rattle.model.specs.FitLaws.{round-limits, says-round}
-use Rattle.model.specs.Steps.{Accepted, Good, step}
+use Rattle.model.proofs.FitLaws.{round-limits, says-round}
+use Rattle.model.specs.Steps.{Accepted, Good}
+use Rattle.model.proofs.Steps.{step}
 use Rattle.model.specs.declared.Booking.{Booking}
 use Rattle.model.specs.declared.Answer.TheVariants.{Opened}
 

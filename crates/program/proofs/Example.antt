@@ -13,7 +13,7 @@ use Rattle.lines.specs.Lines.{lines}
 use Rattle.text.specs.Text.{spell, answer_fields}
 use Rattle.console.specs.Session.{at_start}
 use Rattle.console.specs.PlainSession.{unopened}
-use Rattle.console.specs.Claim.{session-text}
+use Rattle.console.proofs.Claim.{session-text}
 use Rattle.console.specs.Example as session
 use Rattle.program.specs.Program.{file_number, text_by, program_text}
 

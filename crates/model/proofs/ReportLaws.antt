@@ -11,10 +11,12 @@ use Rattle.model.specs.Report.{line_of, lines_of, sum_read, sum_held, Within, Ea
 use Rattle.model.specs.Calls.{Call, booking, dropping, playing}
 use Rattle.model.specs.PlainDay.{PlainDay, plain_book, plain_drop, plain_play, plain_call, plain_reports}
 use Rattle.model.specs.Expected.{arguments_of}
-use Rattle.model.specs.FitLaws.{place, exists-carry, round-says, limits-round}
-use Rattle.model.specs.SoundLaws.{Sound, sound-exist}
-use Rattle.model.specs.PlayLaws.{lines-count}
-use Rattle.model.specs.Steps.{Accepted, Good, step, in-time}
+use Rattle.model.proofs.FitLaws.{place, exists-carry, round-says, limits-round}
+use Rattle.model.specs.SoundLaws.{Sound}
+use Rattle.model.proofs.SoundLaws.{sound-exist}
+use Rattle.model.proofs.PlayLaws.{lines-count}
+use Rattle.model.specs.Steps.{Accepted, Good}
+use Rattle.model.proofs.Steps.{step, in-time}
 use Rattle.model.specs.declared.Booking.{Booking}
 use Rattle.model.specs.declared.Request.{Request}
 

@@ -15,7 +15,7 @@ use Rattle.text.specs.Digits.{output_bytes}
 use Rattle.text.proofs.Digits.{report-fits}
 use Rattle.console.specs.Session.{SessionState, outcome_of, state_after, name_in, lines_told, text_of, session_text}
 use Rattle.console.specs.Contract.{with_sheet, Carries, reply_text, in_front, step_of, printed}
-use Rattle.console.specs.Laws.{told}
+use Rattle.console.proofs.Laws.{told}
 use Rattle.console.specs.declared.calls.Carried.{Carried}
 
 -- a text placed at the front

@@ -16,7 +16,7 @@ use Rattle.model.specs.Day.{Setting, total, sending, open_at, cabs_at, exists, o
 use Rattle.model.specs.Report.{line_of, lines_of}
 use Rattle.model.specs.Soundness.{apart}
 use Rattle.model.specs.Calls.{cabs_joined}
-use Rattle.model.specs.FitLaws.{place, exists-carry}
+use Rattle.model.proofs.FitLaws.{place, exists-carry}
 use Rattle.model.specs.declared.Booking.{Booking}
 use Rattle.model.specs.declared.Line.{Line}
 

@@ -12,7 +12,7 @@ use Rattle.console.specs.Session.{SessionState}
 use Rattle.console.specs.Contract.{After, step_of, printed}
 use Rattle.program.specs.Contract.{nothing, answered, served_of, ended_of}
 use Rattle.program.specs.Run.{front, read_text, reads_text, joined}
-use Rattle.program.specs.Laws.{answered-none}
+use Rattle.program.proofs.Laws.{answered-none}
 
 module _ (file : List ℕ) where
   -- ---- A read, line after line

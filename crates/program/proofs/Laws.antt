@@ -19,7 +19,7 @@ use Rattle.text.specs.Write.{Wrote}
 use Rattle.text.specs.Digits.{output_bytes}
 use Rattle.console.specs.Session.{SessionState}
 use Rattle.console.specs.Contract.{After, in_front, step_of}
-use Rattle.console.specs.Stepping.{placed-front}
+use Rattle.console.proofs.Stepping.{placed-front}
 use Rattle.program.specs.Program.{file_number, refusal_text}
 use Rattle.program.specs.Contract.{begin_by, nothing, answered, served_of, ended_of}
 

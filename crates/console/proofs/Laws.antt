@@ -15,8 +15,8 @@ use Rattle.model.specs.Fit.{Found, nowhere, at}
 use Rattle.model.specs.Report.{lines_of, written}
 use Rattle.model.specs.Questions.{play_own}
 use Rattle.model.specs.Calls.{Outcome, standing, day_in_range, limits_in_range, sound, open_questions, open_with, open_call, book_questions, start_of, book_with, book_call, drop_questions, drop_with, drop_call, play_questions, play_with, play_call}
-use Rattle.model.specs.SoundLaws.{file-held}
-use Rattle.model.specs.PlayLaws.{lines-count}
+use Rattle.model.proofs.SoundLaws.{file-held}
+use Rattle.model.proofs.PlayLaws.{lines-count}
 use Rattle.model.specs.declared.Request.{Request}
 use Rattle.model.specs.declared.Line.{Line}
 use Rattle.questions.specs.Given.{setting_at}

@@ -5,7 +5,7 @@ use Rattle.std.proofs.Common.{arith}
 use Rattle.load.specs.Stream.{length_of}
 use Rattle.search.specs.Fit.{Query, disk_free, memory_free, fits_at}
 use Rattle.search.specs.Search.{PassFrom, FirstFails, after_clashes, Clear, Skips, NoneFits}
-use Rattle.search.specs.FitLaws.{fits_all, disk-rules-out, memory-rules-out, cabs-rule-out, clashes-none}
+use Rattle.search.proofs.FitLaws.{fits_all, disk-rules-out, memory-rules-out, cabs-rule-out, clashes-none}
 
 module _ (q : Query) where
   clear-on : (s u clear : ℕ) → s ≤ u → Clear q s clear → Clear q u clear

@@ -10,8 +10,8 @@ use Rattle.text.specs.Digits.{output_bytes}
 use Rattle.console.specs.Session.{SessionState, at_start, state_after, session_text, session_end}
 use Rattle.console.specs.PlainSession.{PlainSession, unopened, plain_command, plain_output, plain_end}
 use Rattle.console.specs.Contract.{printed}
-use Rattle.console.specs.Stepping.{printed-text}
-use Rattle.console.specs.PlainLaws.{Stands, keeps}
+use Rattle.console.proofs.Stepping.{printed-text}
+use Rattle.console.proofs.PlainLaws.{Stands, keeps}
 
 -- `fits` is any decision which lists of bookings fit in a setting (model/specs/FitLaws.antt, `dec_fits`, is one)
 module _ (file : List ℕ) (fits : (S : Setting) (bs : List Booking) → Dec (Fits S bs)) where

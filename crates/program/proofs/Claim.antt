@@ -16,12 +16,12 @@ use Rattle.text.specs.Digits.{output_bytes}
 use Rattle.console.specs.Session.{at_start}
 use Rattle.console.specs.Contract.{printed}
 use Rattle.console.specs.PlainSession.{unopened, plain_output}
-use Rattle.console.specs.Claim.{session-plain}
+use Rattle.console.proofs.Claim.{session-plain}
 use Rattle.program.specs.Program.{bytes_of, file_number, refusal_text, text_by, program_text}
 use Rattle.program.specs.Contract.{begin_by}
 use Rattle.program.specs.Run.{reads_text, joined, run_text}
-use Rattle.program.specs.Laws.{number-long}
-use Rattle.program.specs.RunLaws.{reads-printed}
+use Rattle.program.proofs.Laws.{number-long}
+use Rattle.program.proofs.RunLaws.{reads-printed}
 
 -- `fits` is any decision which lists of bookings fit in a setting (model/specs/FitLaws.antt, `dec_fits`, is one)
 module _ (fits : (S : Setting) (bs : List Booking) → Dec (Fits S bs)) where

@@ -26,7 +26,7 @@ use Rattle.playing.specs.declared.Played as P
 use Rattle.commands.specs.declared.Command.TheVariants.{Open, Book, Drop, Play, Bad}
 use Rattle.console.specs.Session.{SessionState, lent_by, blank_report, outcome_of, day_after, lines_told}
 use Rattle.console.specs.Contract.{with_sheet, left_as, Carries}
-use Rattle.console.specs.Laws.{silent, open-silent, book-silent, drop-silent, play-told}
+use Rattle.console.proofs.Laws.{silent, open-silent, book-silent, drop-silent, play-told}
 use Rattle.console.specs.declared.Session.{Session}
 
 -- "the records' places are untouched"

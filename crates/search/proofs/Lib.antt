@@ -1,0 +1,4 @@
+pub mod FitLaws
+pub mod ProfileLaws
+pub mod StepLaws
+pub mod WindowLaws
