@@ -8,11 +8,5 @@ pub mod PlainRun
 pub mod Contract
 -- ---- Laws that the proofs cite
 
-pub mod JournalLaws
 pub mod DeskRun
-pub mod RunLaws
 pub mod Pictured
-pub mod Writing
-pub mod StepLaws
-pub mod LoopLaws
-pub mod OpeningLaws

@@ -5,7 +5,7 @@ use native.Mathlib.Omega.{arith}
 use borrow.Author.Rules.{rules}
 use Rattle.films.specs.Questions.{verdict}
 use Rattle.films.specs.Decode.{films_of}
-use Rattle.replay.specs.OpeningLaws.{refused-replays, opened-pictured, opened-replays}
+use Rattle.replay.proofs.OpeningLaws.{refused-replays, opened-pictured, opened-replays}
 use Rattle.replay.proofs.replay.Goals as goal
 
 pub returns-then-refusal-ne0 : goal.returns-then-refusal-ne0

@@ -1,7 +1,7 @@
 -- `journal::entry_of` meets its contract, by the tests on the kind and the name. Assumes nothing.
 use mathlib.Core.Path.{sym}
 use borrow.Author.Rules.{rules}
-use Rattle.replay.specs.JournalLaws.{entry-play, entry-book, entry-drop, entry-unnamed, entry-unknown}
+use Rattle.replay.proofs.JournalLaws.{entry-play, entry-book, entry-drop, entry-unnamed, entry-unknown}
 use Rattle.replay.proofs.journal.entry_of.Goals as goal
 
 pub returns-then-kind-eq-PLAY : goal.returns-then-kind-eq-PLAY

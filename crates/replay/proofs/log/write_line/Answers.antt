@@ -2,7 +2,7 @@
 use native.Mathlib.Omega.{arith}
 use lib.ListN.{length-set}
 use borrow.Author.Rules.{rules}
-use Rattle.replay.specs.Writing.{wrote-four}
+use Rattle.replay.proofs.Writing.{wrote-four}
 use Rattle.replay.proofs.log.write_line.Goals as goal
 
 pub bounds-log-at-2 : goal.bounds-log-at-2

@@ -4,7 +4,7 @@ use native.Mathlib.Omega.{arith}
 use lib.ListN.{take}
 use borrow.Author.Rules.{rules}
 use Rattle.replay.specs.Log.{lines_words, Wrote}
-use Rattle.replay.specs.Writing.{wrote_none, lines-stand, lines_next}
+use Rattle.replay.proofs.Writing.{wrote_none, lines-stand, lines_next}
 use Rattle.replay.proofs.log.write_lines.Goals as goal
 
 pub loop-i-init : goal.loop-i-init

@@ -6,7 +6,7 @@ use native.Mathlib.Omega.{arith}
 use lib.ListN.{take}
 use borrow.Author.Rules.{rules}
 use Rattle.replay.specs.Log.{lines_words, Wrote}
-use Rattle.replay.specs.Writing.{wrote_none, lines-stand, lines_next}
+use Rattle.replay.proofs.Writing.{wrote_none, lines-stand, lines_next}
 use Rattle.replay.proofs.log.write_lines.Given as goal
 
 abbrev pub invariant-loop-i : goal.invariant-loop-i

@@ -12,8 +12,8 @@ use Rattle.films.proofs.CatalogueLaws.{catalogue-verdict}
 use Rattle.films.specs.declared.types.Catalogue.{Catalogue}
 use Rattle.model.specs.Code.{state_of}
 use Rattle.questions.specs.Given.{setting_at}
-use Rattle.replay.specs.Pictured.{between-asks, between-plays}
-use Rattle.replay.specs.StepLaws.{no_room, file-steps, refused-steps}
+use Rattle.replay.proofs.Pictured.{between-asks, between-plays}
+use Rattle.replay.proofs.StepLaws.{no_room, file-steps, refused-steps}
 use Rattle.replay.specs.declared.journal.Entry.TheVariants.{Unknown}
 use Rattle.replay.proofs.step.step.Goals as goal
 

@@ -3,7 +3,7 @@ use mathlib.Core.Path.{refl}
 use borrow.Author.Rules.{rules}
 use Rattle.model.specs.Code.{state_of}
 use Rattle.questions.specs.Given.{setting_at}
-use Rattle.replay.specs.StepLaws.{dropped-steps}
+use Rattle.replay.proofs.StepLaws.{dropped-steps}
 use Rattle.replay.proofs.step.step_drop.Goals as goal
 
 pub returns : goal.returns

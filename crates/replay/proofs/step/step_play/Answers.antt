@@ -6,8 +6,8 @@ use lib.ListN.{length}
 use borrow.Author.Rules.{rules}
 use Rattle.playing.specs.Contract.{lines_in}
 use Rattle.replay.specs.Log.{answer_words}
-use Rattle.replay.specs.Writing.{wrote-length}
-use Rattle.replay.specs.StepLaws.{answer-length, lines-there, play-full, play-done}
+use Rattle.replay.proofs.Writing.{wrote-length}
+use Rattle.replay.proofs.StepLaws.{answer-length, lines-there, play-full, play-done}
 use Rattle.replay.proofs.step.step_play.Goals as goal
 
 pub returns-then-fitting-count : goal.returns-then-fitting-count

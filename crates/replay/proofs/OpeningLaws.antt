@@ -25,8 +25,9 @@ use Rattle.questions.specs.Given.{setting_at}
 use Rattle.replay.specs.Journal.{entries}
 use Rattle.replay.specs.Contract.{no_day, lent_to, Result, Replays, result_by, result_of}
 use Rattle.replay.specs.DeskRun.{desk_run, run_result}
-use Rattle.replay.specs.RunLaws.{run-result}
-use Rattle.replay.specs.Pictured.{Pictured, pictured-first}
+use Rattle.replay.proofs.RunLaws.{run-result}
+use Rattle.replay.specs.Pictured.{Pictured}
+use Rattle.replay.proofs.Pictured.{pictured-first}
 use Rattle.replay.specs.declared.Replayed.{Replayed}
 
 module _ (f : List ℕ) (T D M : ℕ) (rows : List Booking) (places : ℕ) (opens reserves helds : List ℕ) (o : Opened) (opens' reserves' helds' : List ℕ) where

@@ -8,10 +8,11 @@ use Rattle.model.specs.declared.Booking.{Booking}
 use Rattle.model.specs.declared.Day.{Day}
 use Rattle.questions.specs.Given.{setting_at}
 use Rattle.replay.specs.Journal.{entry_at, entries_from}
-use Rattle.replay.specs.Writing.{wrote-length, wrote-front, wrote-back}
+use Rattle.replay.proofs.Writing.{wrote-length, wrote-front, wrote-back}
 use Rattle.replay.specs.Contract.{Replays}
 use Rattle.replay.specs.DeskRun.{DeskRun, outcome_words, after_run, no_run, carried, desk_run, run_result, Took, Kept}
-use Rattle.replay.specs.Pictured.{Pictured, pictured-next}
+use Rattle.replay.specs.Pictured.{Pictured}
+use Rattle.replay.proofs.Pictured.{pictured-next}
 use Rattle.replay.specs.declared.journal.Entry.{Entry}
 use Rattle.replay.specs.declared.step.Stepped.{Stepped}
 

@@ -27,7 +27,7 @@ use Rattle.playing.specs.Lines.{no_line}
 use Rattle.playing.specs.Contract.{lines_in, lines_for, Plays}
 use Rattle.playing.specs.declared.Played as Play
 use Rattle.replay.specs.Log.{answer_words, lines_words, logged_words, Wrote}
-use Rattle.replay.specs.Writing.{wrote_then, lines-length}
+use Rattle.replay.proofs.Writing.{wrote_then, lines-length}
 use Rattle.replay.specs.DeskRun.{blank_report, refusal_of, outcome_words, carried, Took, Kept, Steps, Refuses}
 use Rattle.replay.specs.declared.journal.Entry.{Entry}
 use Rattle.replay.specs.declared.journal.Entry.TheVariants as E
