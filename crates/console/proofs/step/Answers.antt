@@ -11,27 +11,21 @@ returns-then-out-lt-OUTPUT_BYTES c =
 
 pub write_reply-length-requires : goal.write_reply-length-requires
 write_reply-length-requires c =
-    let told = c in
-    let call = told in
-    let long = call in
-    let a = long.args in (
-      step-few a.file.now (with_sheet a.s a.opens.now a.reserves.now a.helds.now) a.command call.carry_out-carried.result _ _ _ call.carry_out-carried.ensures,
-      omega (arith, long.if-out-lt-OUTPUT_BYTES.false),
+    let a = c.args in
+    let carried = c.carry_out-carried in (
+      step-few a.file.now (with_sheet a.s a.opens.now a.reserves.now a.helds.now) a.command carried.result _ _ _ carried.ensures,
+      omega (arith, c.if-out-lt-OUTPUT_BYTES.false),
     )
 
 pub returns : goal.returns
 returns c =
-    let reply = c in
-    let named = reply in
-    let told = named in
-    let call = told in
-    let long = call in
-    let a = long.args in
-    step-done a.file.now (with_sheet a.s a.opens.now a.reserves.now a.helds.now) a.command call.carry_out-carried.result _ _ _ call.carry_out-carried.ensures
+    let a = c.args in
+    let carried = c.carry_out-carried in
+    step-done a.file.now (with_sheet a.s a.opens.now a.reserves.now a.helds.now) a.command carried.result _ _ _ carried.ensures
     a.out.now
-    long.if-out-lt-OUTPUT_BYTES.false
-    named.name_of.result
-    named.name_of.ensures
+    c.if-out-lt-OUTPUT_BYTES.false
+    c.name_of.result
+    c.name_of.ensures
     _
     _
-    reply.write_reply-length.ensures
+    c.write_reply-length.ensures

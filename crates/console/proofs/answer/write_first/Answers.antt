@@ -5,18 +5,16 @@ use Rattle.console.proofs.answer.write_first.Goals as goal
 
 pub returns-in-Next : goal.returns-in-Next
 returns-in-Next c =
+    let a = c.args in
     let wrote = c.write_answer in
-    let start = c in
-    let a = start.args in
-    next-wrote a.out.now 0 (answer_text a.name a.round a.answer) start.requires wrote.result _ _
+    next-wrote a.out.now 0 (answer_text a.name a.round a.answer) c.requires wrote.result _ _
     c.in-Next.is
     wrote.ensures.value
     wrote.ensures.out_after
 
 pub returns-in-NoRoom : goal.returns-in-NoRoom
 returns-in-NoRoom c =
+    let a = c.args in
     let wrote = c.write_answer in
-    let start = c in
-    let a = start.args in
     absurd
-    (never-full a.out.now 0 (answer_text a.name a.round a.answer) start.requires wrote.result c.in-NoRoom.is wrote.ensures.value)
+    (never-full a.out.now 0 (answer_text a.name a.round a.answer) c.requires wrote.result c.in-NoRoom.is wrote.ensures.value)

@@ -1,3 +1,4 @@
+-- `console::answer::write_lines` meets its contract: each turn writes the next line, which has room. Assumes nothing.
 use mathlib.Core.Path.{◌≡◌, refl, ◌∙◌}
 use native.Mathlib.Omega.{arith}
 use Rattle.text.proofs.Writing.{wrote_none}
@@ -17,11 +18,10 @@ pub loop-i-preserved : goal.loop-i-preserved
 loop-i-preserved c =
     let wrote = c.write_next-at in
     let loop = c.loop-i in
-    let start = c in
-    let a = start.args in (
+    let a = c.args in (
       omega arith,
       wrote.auto.out ∙ loop.invariant.1,
-      lines_more a.out.now a.from a.lines loop.i loop.out loop.at _ _ (omega (arith, start)) (omega arith) loop.invariant.2 wrote.ensures,
+      lines_more a.out.now a.from a.lines loop.i loop.out loop.at _ _ (omega (arith, c)) (omega arith) loop.invariant.2 wrote.ensures,
     )
 
 pub returns : goal.returns

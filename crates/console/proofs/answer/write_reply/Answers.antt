@@ -7,8 +7,7 @@ use Rattle.console.proofs.answer.write_reply.Goals as goal
 pub write_lines-requires : goal.write_lines-requires
 write_lines-requires c =
     let first = c.write_first-next in
-    let start = c in
-    let a = start.args in (
+    let a = c.args in (
       omega arith,
       omega (arith, first.ensures.place, first.auto.out, answer-length a.name a.round a.answer),
     )
@@ -18,6 +17,5 @@ returns c =
     let lines = c.write_lines in
     let count = c.line_count-count in
     let first = c.write_first-next in
-    let start = c in
-    let a = start.args in
+    let a = c.args in
     rw count.ensures at (then-wrote first.ensures lines.ensures (omega (arith, answer-length a.name a.round a.answer)))

@@ -4,9 +4,8 @@ use Rattle.console.proofs.calls.carry_book.Goals as goal
 
 pub returns : goal.returns
 returns c =
-    let after = c in
-    let call = after in
-    let a = call.args in
-    let r = call.book-booked.result in
+    let a = c.args in
+    let booked = c.book-booked in
+    let r = booked.result in
     rw (c.left.ensures, c.no_lines.ensures)
-    (book-carries a.file.now a.s a.opens.now a.reserves.now a.helds.now a.q r.answer r.day r.rows _ _ _ call.book-booked.ensures.leaves)
+    (book-carries a.file.now a.s a.opens.now a.reserves.now a.helds.now a.q r.answer r.day r.rows _ _ _ booked.ensures.leaves)

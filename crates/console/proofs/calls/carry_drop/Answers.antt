@@ -4,8 +4,7 @@ use Rattle.console.proofs.calls.carry_drop.Goals as goal
 
 pub returns : goal.returns
 returns c =
-    let after = c in
-    let call = after in
-    let a = call.args in
+    let a = c.args in
+    let dropped = c.drop_booking-dropped in
     rw (c.left.ensures, c.no_lines.ensures)
-    (drop-carries a.file.now a.s a.opens.now a.reserves.now a.helds.now a.name call.drop_booking-dropped.result _ _ _ call.drop_booking-dropped.ensures)
+    (drop-carries a.file.now a.s a.opens.now a.reserves.now a.helds.now a.name dropped.result _ _ _ dropped.ensures)

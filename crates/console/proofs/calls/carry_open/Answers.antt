@@ -7,9 +7,7 @@ use Rattle.console.proofs.calls.carry_open.Goals as goal
 
 pub returns : goal.returns
 returns c file =
-    let after = c in
-    let call = after in
-    let a = call.args in
-    let opened = call.open-opened in
+    let a = c.args in
+    let opened = c.open-opened in
     rw (c.left.ensures, c.no_lines.ensures)
     (open-carries file a.s a.opens.now a.reserves.now a.helds.now a.rounds a.disk a.memory opened.result _ _ _ (opened.ensures (verdict file) (films_of file) a.s.rows hall_places))

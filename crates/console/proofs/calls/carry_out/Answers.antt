@@ -2,23 +2,13 @@
 use Rattle.console.proofs.calls.carry_out.Goals as goal
 
 pub returns-in-Open : goal.returns-in-Open
-returns-in-Open c =
-    let call = c in
-    let told = call in
-    let a = told.args in
-    rw told.in-Open.is (call.carry_open.ensures a.file.now)
+returns-in-Open c = rw c.in-Open.is (c.carry_open.ensures c.args.file.now)
 
 pub returns-in-Book : goal.returns-in-Book
-returns-in-Book c =
-    let call = c in
-    let told = call in
-    rw told.in-Book.is call.carry_book.ensures
+returns-in-Book c = rw c.in-Book.is c.carry_book.ensures
 
 pub returns-in-Drop : goal.returns-in-Drop
-returns-in-Drop c =
-    let call = c in
-    let told = call in
-    rw told.in-Drop.is call.carry_drop.ensures
+returns-in-Drop c = rw c.in-Drop.is c.carry_drop.ensures
 
 pub returns-in-Play : goal.returns-in-Play
 returns-in-Play c =

@@ -4,6 +4,6 @@ use Rattle.console.proofs.calls.carry_play.Goals as goal
 
 pub returns : goal.returns
 returns c opens reserves helds =
-    let call = c in
-    let a = call.args in
-    rw c.left.ensures (play-carries a.file.now a.s opens reserves helds call.play-played.result call.play-played.ensures)
+    let a = c.args in
+    let played = c.play-played in
+    rw c.left.ensures (play-carries a.file.now a.s opens reserves helds played.result played.ensures)
