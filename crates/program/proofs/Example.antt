@@ -15,6 +15,7 @@ use Rattle.console.specs.Session.{at_start}
 use Rattle.console.specs.PlainSession.{unopened}
 use Rattle.console.proofs.Claim.{session-text}
 use Rattle.console.specs.Example as session
+use Rattle.console.proofs.Example.{example}
 use Rattle.program.specs.Program.{file_number, text_by, program_text}
 
 -- the file is accepted
@@ -27,7 +28,7 @@ module _ (fits : (S : Setting) (bs : List Booking) → Dec (Fits S bs)) where
   program-example =
       ap (λ (n : ℕ). text_by fits n session.film_file session.input) accepted
       ∙ sym (session-text session.film_file fits (map command_of (lines session.input)) at_start unopened refl)
-      ∙ session.example
+      ∙ example
 
   -- "A missing file counts as empty": the file's first question says no, and the input is not read
   pub program-missing : (input : List ℕ) → program_text fits none input ≡ bytes "NO 1\n"
