@@ -11,32 +11,38 @@ ghost use Rattle.std.specs.Prelude.{◌<◌, ◌≤◌, length};
 use calls::{BOOK_NARROW, OPEN, call};
 use desk::{Desk, GARBAGE, empty, set};
 use garbage::{PLACES, fill, report};
-use io::read_full;
-use libc::STDIN_FILENO;
 use model::Answer;
 use script::buffer::{BUFFER, file_length, list_length};
+use script::input::read_full;
 use script::line::Line;
 use script::operands::{MAX_SCRIPT, after, u8_at, u32_at};
 use script::{buffer, line};
+use std::io;
 
 // An answer on the line: the refusal alone, or 0 and what the call gives.
-fn add_answer(line: Line, answer: Answer) -> Line {
+fn add_answer(rt: &impl Print, line: Line, answer: Answer) -> io::Result<Line> {
     match answer {
-        Answer::Refused(number) => line::add(line, number as u64),
-        Answer::Opened => line::add(line, 0),
-        Answer::Booked(start) => line::add(line::add(line, 0), start),
-        Answer::Dropped => line::add(line, 0),
-        Answer::Played(open, cabs) => line::add(line::add(line::add(line, 0), open), cabs),
+        Answer::Refused(number) => line::add(rt, line, number as u64),
+        Answer::Opened => line::add(rt, line, 0),
+        Answer::Booked(start) => line::add(rt, line::add(rt, line, 0)?, start),
+        Answer::Dropped => line::add(rt, line, 0),
+        Answer::Played(open, cabs) => {
+            let opened = line::add(rt, line::add(rt, line, 0)?, open)?;
+            line::add(rt, opened, cabs)
+        }
     }
 }
 
 // Prints an answer and the checksum of everything lent.
-fn show(answer: Answer, sum: u64) {
-    line::end(line::add(add_answer(line::begin(0, true), answer), sum));
+fn show(rt: &impl Print, answer: Answer, sum: u64) -> io::Result<()> {
+    let line = add_answer(rt, line::begin(0, true), answer)?;
+    line::end(rt, line::add(rt, line, sum)?)?;
+    Ok(())
 }
 
 // Carries out the call at a position on the lent parts of the sheet's lists, and prints its line.
 fn answer(
+    rt: &impl Print,
     script: &[u8],
     at: usize,
     file: &[u8],
@@ -44,16 +50,17 @@ fn answer(
     reserves: &mut [u64],
     helds: &mut [u64],
     desk: Desk,
-) -> Desk {
+) -> io::Result<Desk> {
     let called = call(script, at, file, opens, reserves, helds, desk);
     let next = called.desk;
     let answer = called.answer;
-    show(answer, sums::lent(next, opens, reserves, helds));
-    next
+    show(rt, answer, sums::lent(next, opens, reserves, helds))?;
+    Ok(next)
 }
 
 // The same on the whole lists.
 fn lend(
+    rt: &impl Print,
     script: &[u8],
     at: usize,
     file: &[u8],
@@ -61,11 +68,12 @@ fn lend(
     reserves: &mut [u64],
     helds: &mut [u64],
     desk: Desk,
-) -> Desk {
+) -> io::Result<Desk> {
     let a = list_length(opens, desk.opens);
     let b = list_length(reserves, desk.reserves);
     let c = list_length(helds, desk.helds);
     answer(
+        rt,
         script,
         at,
         file,
@@ -100,6 +108,7 @@ fn prepare(script: &[u8], at: usize, bytes: &mut [u8], desk: Desk) -> Desk {
 
 // Carries out the operation at a position.
 fn carry_out(
+    rt: &impl Print,
     script: &[u8],
     at: usize,
     bytes: &mut [u8],
@@ -107,16 +116,16 @@ fn carry_out(
     reserves: &mut [u64],
     helds: &mut [u64],
     desk: Desk,
-) -> Desk {
+) -> io::Result<Desk> {
     let opcode = u8_at(script, at, 0);
     if opcode == GARBAGE {
-        return spoil(u32_at(script, at, 1), opens, reserves, helds, desk);
+        return Ok(spoil(u32_at(script, at, 1), opens, reserves, helds, desk));
     }
     if opcode < OPEN {
-        return prepare(script, at, bytes, desk);
+        return Ok(prepare(script, at, bytes, desk));
     }
     let n = file_length(bytes, desk.length);
-    lend(script, at, &bytes[..n], opens, reserves, helds, desk)
+    lend(rt, script, at, &bytes[..n], opens, reserves, helds, desk)
 }
 
 // The position after the operation at a position.
@@ -136,43 +145,47 @@ fn next(script: &[u8], at: usize) -> usize
 
 // Carries out the operations in order.
 fn carry_out_all(
+    rt: &impl Print,
     script: &[u8],
     bytes: &mut [u8],
     opens: &mut [u64],
     reserves: &mut [u64],
     helds: &mut [u64],
-) {
+) -> io::Result<()> {
     let mut desk = empty();
     let mut at = 0;
     while at < script.len() {
-        desk = carry_out(script, at, bytes, opens, reserves, helds, desk);
+        desk = carry_out(rt, script, at, bytes, opens, reserves, helds, desk)?;
         at = next(script, at);
     }
+    Ok(())
 }
 
 // The same over whole arrays, whose lengths their types give.
 fn run(
+    rt: &impl Print,
     script: &[u8],
     bytes: &mut [u8; BUFFER],
     opens: &mut [u64; PLACES],
     reserves: &mut [u64; PLACES],
     helds: &mut [u64; PLACES],
-) {
-    carry_out_all(script, bytes, opens, reserves, helds);
+) -> io::Result<()> {
+    carry_out_all(rt, script, bytes, opens, reserves, helds)
 }
 
-fn main() {
+fn main(rt: HostRuntime) -> io::Result<()> {
     let mut input = [0u8; MAX_SCRIPT];
-    let n = read_full(STDIN_FILENO, &mut input);
+    let n = read_full(&mut rt.stdin(), &mut input)?;
     let mut bytes = [0u8; BUFFER];
     let mut opens = [0u64; PLACES];
     let mut reserves = [0u64; PLACES];
     let mut helds = [0u64; PLACES];
     run(
+        &rt,
         &input[..n],
         &mut bytes,
         &mut opens,
         &mut reserves,
         &mut helds,
-    );
+    )
 }

@@ -4,6 +4,7 @@ use booking::book;
 use limits::bounds::{HALL_PLACES, HALL_ROUNDS, MAX_BOOKINGS};
 use model::{Answer, Booking, Day, Request};
 use opening::open;
+use std::io;
 
 // rounds of the day
 const ROUNDS: u64 = 20;
@@ -94,26 +95,26 @@ fn second(
 }
 
 // Prints an answer: the start, or the refusal.
-fn show(answer: Answer) {
+fn show(rt: &impl Print, answer: Answer) -> io::Result<()> {
     match answer {
-        Answer::Booked(start) => number(b"start ", start),
-        Answer::Refused(refusal) => number(b"refused ", refusal as u64),
-        Answer::Opened => {}
-        Answer::Dropped => {}
-        Answer::Played(_, _) => {}
+        Answer::Booked(start) => number(rt, b"start ", start),
+        Answer::Refused(refusal) => number(rt, b"refused ", refusal as u64),
+        Answer::Opened => Ok(()),
+        Answer::Dropped => Ok(()),
+        Answer::Played(_, _) => Ok(()),
     }
 }
 
 // Prints the start of booking 2 with these limits and cabs.
-pub fn start(file: &[u8], disk: u64, memory: u64, cabs: u64) {
+pub fn start(rt: &impl Print, file: &[u8], disk: u64, memory: u64, cabs: u64) -> io::Result<()> {
     let mut opens = [0u64; HALL_ROUNDS];
     let mut reserves = [0u64; HALL_ROUNDS];
     let mut helds = [0u64; HALL_ROUNDS];
-    number(b"* Booking 2, D ", disk);
-    number(b", M ", memory);
-    number(b", cabs ", cabs);
-    words(b": ");
-    show(second(
+    number(rt, b"* Booking 2, D ", disk)?;
+    number(rt, b", M ", memory)?;
+    number(rt, b", cabs ", cabs)?;
+    words(rt, b": ")?;
+    let answer = second(
         file,
         disk,
         memory,
@@ -121,6 +122,7 @@ pub fn start(file: &[u8], disk: u64, memory: u64, cabs: u64) {
         &mut opens,
         &mut reserves,
         &mut helds,
-    ));
-    words(b"\n");
+    );
+    show(rt, answer)?;
+    words(rt, b"\n")
 }

@@ -9,6 +9,7 @@ mod words;
 use bookings::start;
 use loss::loss;
 use schedules::{held, largest, reserve, totals};
+use std::io;
 use words::{number, words};
 
 // the film file of film 1 alone, with sizes 8, 8, 8, 2, 6, 4
@@ -24,63 +25,63 @@ const ZEROS: [u8; 34] = [
 ];
 
 // Begins the line of a schedule.
-fn begin(p: u64, b: u64) {
-    number(b"* p ", p);
-    number(b", b ", b);
-    words(b": ");
+fn begin(rt: &impl Print, p: u64, b: u64) -> io::Result<()> {
+    number(rt, b"* p ", p)?;
+    number(rt, b", b ", b)?;
+    words(rt, b": ")
 }
 
 // The lines on schedules.
-fn schedule_lines(file: &[u8]) {
-    begin(1, 6);
-    totals(file, 1, 6);
-    words(b"; ");
-    held(file, 1, 6);
-    words(b"\n");
-    begin(0, 7);
-    totals(file, 0, 7);
-    words(b"\n");
-    begin(0, 8);
-    held(file, 0, 8);
-    words(b"\n");
-    begin(1, 5);
-    totals(file, 1, 5);
-    words(b"\n");
-    begin(2, 5);
-    largest(file, 2, 5);
-    words(b"\n");
-    begin(1, 7);
-    largest(file, 1, 7);
-    words(b"\n");
+fn schedule_lines(rt: &impl Print, file: &[u8]) -> io::Result<()> {
+    begin(rt, 1, 6)?;
+    totals(rt, file, 1, 6)?;
+    words(rt, b"; ")?;
+    held(rt, file, 1, 6)?;
+    words(rt, b"\n")?;
+    begin(rt, 0, 7)?;
+    totals(rt, file, 0, 7)?;
+    words(rt, b"\n")?;
+    begin(rt, 0, 8)?;
+    held(rt, file, 0, 8)?;
+    words(rt, b"\n")?;
+    begin(rt, 1, 5)?;
+    totals(rt, file, 1, 5)?;
+    words(rt, b"\n")?;
+    begin(rt, 2, 5)?;
+    largest(rt, file, 2, 5)?;
+    words(rt, b"\n")?;
+    begin(rt, 1, 7)?;
+    largest(rt, file, 1, 7)?;
+    words(rt, b"\n")
 }
 
 // A line on a least reserve.
-fn reserve_line(text: &[u8], file: &[u8], cap: u64) {
-    words(text);
-    reserve(file, cap);
+fn reserve_line(rt: &impl Print, text: &[u8], file: &[u8], cap: u64) -> io::Result<()> {
+    words(rt, text)?;
+    reserve(rt, file, cap)
 }
 
 // A line on the disk loss.
-fn loss_line(films: u64) {
-    number(b"loss(", films);
-    number(b") = ", loss(films));
-    words(b"\n");
+fn loss_line(rt: &impl Print, films: u64) -> io::Result<()> {
+    number(rt, b"loss(", films)?;
+    number(rt, b") = ", loss(films))?;
+    words(rt, b"\n")
 }
 
-fn main() {
-    schedule_lines(&FILM_1);
-    reserve_line(b"* Least reserve, p 1: ", &FILM_1, 12);
-    reserve_line(b"* Least reserve, p 1: ", &FILM_1, 11);
-    reserve_line(b"* Least reserve, p 1: ", &FILM_1, 8);
-    reserve_line(b"* Least reserve, p 1: ", &FILM_1, 7);
-    start(&FILM_1, 141433, 15, 2);
-    start(&FILM_1, 141432, 18, 2);
-    start(&FILM_1, 141433, 18, 1);
-    reserve_line(b"All sizes 0, p 1: ", &ZEROS, 12);
-    reserve_line(b"All sizes 0, p 1: ", &ZEROS, 0);
-    loss_line(0);
-    loss_line(1);
-    loss_line(2);
-    loss_line(3);
-    loss_line(256);
+fn main(rt: HostRuntime) -> io::Result<()> {
+    schedule_lines(&rt, &FILM_1)?;
+    reserve_line(&rt, b"* Least reserve, p 1: ", &FILM_1, 12)?;
+    reserve_line(&rt, b"* Least reserve, p 1: ", &FILM_1, 11)?;
+    reserve_line(&rt, b"* Least reserve, p 1: ", &FILM_1, 8)?;
+    reserve_line(&rt, b"* Least reserve, p 1: ", &FILM_1, 7)?;
+    start(&rt, &FILM_1, 141433, 15, 2)?;
+    start(&rt, &FILM_1, 141432, 18, 2)?;
+    start(&rt, &FILM_1, 141433, 18, 1)?;
+    reserve_line(&rt, b"All sizes 0, p 1: ", &ZEROS, 12)?;
+    reserve_line(&rt, b"All sizes 0, p 1: ", &ZEROS, 0)?;
+    loss_line(&rt, 0)?;
+    loss_line(&rt, 1)?;
+    loss_line(&rt, 2)?;
+    loss_line(&rt, 3)?;
+    loss_line(&rt, 256)
 }

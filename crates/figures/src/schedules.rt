@@ -11,6 +11,7 @@ use limits::refusals;
 use planning::reserves::{Reserve, least_reserve};
 use planning::schedules::{Scheduled, schedule};
 use retrieval::{exists, peak, round_at};
+use std::io;
 
 // the film's number
 const FILM: u64 = 1;
@@ -19,11 +20,11 @@ const FILM: u64 = 1;
 const PLACES: usize = 16;
 
 // Prints the read totals, or the refusal.
-pub fn totals(file: &[u8], p: u64, b: u64) {
+pub fn totals(rt: &impl Print, file: &[u8], p: u64, b: u64) -> io::Result<()> {
     let mut out = [0u64; PLACES];
     match schedule(file, FILM, p, b, &mut out) {
-        Scheduled::Refused(refusal) => number(b"refused ", refusal as u64),
-        Scheduled::Written(count) => list(b"totals ", &out, count as usize),
+        Scheduled::Refused(refusal) => number(rt, b"refused ", refusal as u64),
+        Scheduled::Written(count) => list(rt, b"totals ", &out, count as usize),
     }
 }
 
@@ -42,55 +43,63 @@ fn held_of(file: &[u8], at: usize, n: usize, p: usize, b: u64) -> [u64; PLACES]
 }
 
 // Prints what the film holds, or its peak, or the refusal.
-fn show(file: &[u8], at: usize, n: usize, p: u64, b: u64, most: bool)
+fn show(
+    rt: &impl Print,
+    file: &[u8],
+    at: usize,
+    n: usize,
+    p: u64,
+    b: u64,
+    most: bool,
+) -> io::Result<()>
     requires { Stored file.now at n }
 {
     if MAX_PREFETCH < p {
-        return number(b"refused ", refusals::PREFETCH as u64);
+        return number(rt, b"refused ", refusals::PREFETCH as u64);
     }
     if MAX_RESERVE < b {
-        return number(b"refused ", refusals::RESERVE as u64);
+        return number(rt, b"refused ", refusals::RESERVE as u64);
     }
     let ahead = p as usize;
     if !exists(file, at, n, ahead, b) {
-        return number(b"refused ", refusals::NO_SCHEDULE as u64);
+        return number(rt, b"refused ", refusals::NO_SCHEDULE as u64);
     }
     if most {
-        return number(b"peak ", peak(file, at, n, ahead, b));
+        return number(rt, b"peak ", peak(file, at, n, ahead, b));
     }
     let out = held_of(file, at, n, ahead, b);
-    list(b"held ", &out, ahead + n);
+    list(rt, b"held ", &out, ahead + n)
 }
 
 // The same of the file's film.
-fn holdings(file: &[u8], p: u64, b: u64, most: bool) {
+fn holdings(rt: &impl Print, file: &[u8], p: u64, b: u64, most: bool) -> io::Result<()> {
     let films = catalogue(file);
     if films.verdict != 0 {
-        return number(b"refused ", films.verdict as u64);
+        return number(rt, b"refused ", films.verdict as u64);
     }
     let found = lookup(films, FILM);
     match found {
-        Lookup::Found(at, n) => show(file, at, n, p, b, most),
-        Lookup::Missing => number(b"refused ", refusals::NO_FILM as u64),
+        Lookup::Found(at, n) => show(rt, file, at, n, p, b, most),
+        Lookup::Missing => number(rt, b"refused ", refusals::NO_FILM as u64),
     }
 }
 
 // Prints the bytes held in each round, or the refusal.
-pub fn held(file: &[u8], p: u64, b: u64) {
-    holdings(file, p, b, false);
+pub fn held(rt: &impl Print, file: &[u8], p: u64, b: u64) -> io::Result<()> {
+    holdings(rt, file, p, b, false)
 }
 
 // Prints the peak, or the refusal.
-pub fn largest(file: &[u8], p: u64, b: u64) {
-    holdings(file, p, b, true);
+pub fn largest(rt: &impl Print, file: &[u8], p: u64, b: u64) -> io::Result<()> {
+    holdings(rt, file, p, b, true)
 }
 
 // Prints the least reserve with one pre-fetch round and this cap, or the refusal.
-pub fn reserve(file: &[u8], cap: u64) {
-    number(b"cap ", cap);
+pub fn reserve(rt: &impl Print, file: &[u8], cap: u64) -> io::Result<()> {
+    number(rt, b"cap ", cap)?;
     match least_reserve(file, FILM, 1, cap) {
-        Reserve::Refused(refusal) => number(b" is refused ", refusal as u64),
-        Reserve::Bytes(bytes) => number(b" gives ", bytes),
-    }
-    words(b"\n");
+        Reserve::Refused(refusal) => number(rt, b" is refused ", refusal as u64),
+        Reserve::Bytes(bytes) => number(rt, b" gives ", bytes),
+    }?;
+    words(rt, b"\n")
 }

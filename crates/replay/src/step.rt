@@ -103,7 +103,8 @@ fn line_count(answer: Answer) -> u64
 }
 
 // PLAY, where the log has three places left and the questions before 23 have passed. Its call changes nothing lent, so that it is
-// made before its words are known to fit.
+// made before its words are known to fit. It is not inlined, since its lines would stand on the stack of a replay's bookings too.
+#[inline(never)]
 fn step_play(
     file: &[u8],
     c: Catalogue,

@@ -1,7 +1,7 @@
 // The film file of a script: the first bytes of a buffer that operations write. What an operation would write past the
 // buffer's end is left out.
 ghost use Rattle.std.specs.Prelude.{◌≡◌, ◌-◌, ◌<◌, ◌≤◌, min};
-ghost use Rattle.io.specs.Counts.{IsPrefixLen};
+ghost use Rattle.script.specs.Counts.{IsPrefixLen};
 
 use crate::operands::{u8_at, u16_at, u32_at};
 

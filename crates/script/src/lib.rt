@@ -4,5 +4,6 @@
 
 pub mod buffer;
 pub mod checksum;
+pub mod input;
 pub mod line;
 pub mod operands;

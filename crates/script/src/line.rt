@@ -1,9 +1,9 @@
 // Lines of decimal numbers, with one space between them.
-ghost use Rattle.std.specs.Prelude.{◌≡◌};
+ghost use Rattle.std.specs.Prelude.{◌≡◌, IfOk};
 ghost use Rattle.script.specs.Checksum.{absorb};
 
 use crate::checksum::absorb;
-use libc::STDOUT_FILENO;
+use std::io;
 
 // A line in the making: the checksum so far, whether the line is printed, and whether a number stands on it.
 #[derive(Drop)]
@@ -25,25 +25,25 @@ pub fn begin(sum: u64, printed: bool) -> Line
 }
 
 // Writes a number, after a space where another stands before it.
-fn write_number(value: u64, begun: bool) {
+fn write_number(rt: &impl Print, value: u64, begun: bool) -> io::Result<()> {
     if begun {
-        io::write_all(STDOUT_FILENO, b" ");
+        rt.print(" ")?;
     }
-    io::print_decimal(STDOUT_FILENO, value);
+    rt.print(value)
 }
 
 // The line with one number more, which the checksum takes in.
-pub fn add(line: Line, value: u64) -> Line
-    ensures { result.sum ≡ absorb line.sum value }
+pub fn add(rt: &impl Print, line: Line, value: u64) -> io::Result<Line>
+    ensures { IfOk result (λ r. r.sum ≡ absorb line.sum value) }
 {
     if line.printed {
-        write_number(value, line.begun);
+        write_number(rt, value, line.begun)?;
     }
-    Line {
+    Ok(Line {
         sum: absorb(line.sum, value),
         printed: line.printed,
         begun: true,
-    }
+    })
 }
 
 // The line as it was, with a value that the checksum takes in unprinted.
@@ -58,17 +58,17 @@ pub fn hide(line: Line, value: u64) -> Line
 }
 
 // Ends the line. Gives its checksum.
-pub fn end(line: Line) -> u64
-    ensures { result ≡ line.sum }
+pub fn end(rt: &impl Print, line: Line) -> io::Result<u64>
+    ensures { IfOk result (λ sum. sum ≡ line.sum) }
 {
     if line.printed {
-        io::write_all(STDOUT_FILENO, b"\n");
+        rt.print("\n")?;
     }
-    line.sum
+    Ok(line.sum)
 }
 
 // Prints one number on a line of its own.
-pub fn print(value: u64) {
-    write_number(value, false);
-    io::write_all(STDOUT_FILENO, b"\n");
+pub fn print(rt: &impl Print, value: u64) -> io::Result<()> {
+    write_number(rt, value, false)?;
+    rt.print("\n")
 }

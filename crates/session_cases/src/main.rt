@@ -6,13 +6,13 @@ mod session;
 ghost use Rattle.std.specs.Prelude.{◌<◌, ◌≤◌, length};
 
 use console::OUTPUT_BYTES;
-use io::{read_full, write_all};
-use libc::{STDIN_FILENO, STDOUT_FILENO};
 use limits::bounds::HALL_ROUNDS;
 use script::buffer;
 use script::buffer::{BUFFER, file_length};
+use script::input::read_full;
 use script::operands::{MAX_SCRIPT, after, u8_at, u16_at, u32_at};
 use session::Running;
+use std::io;
 
 // opcodes
 const BEGIN: u64 = 16;
@@ -43,6 +43,7 @@ fn operands(script: &[u8], at: usize) -> usize {
 
 // Carries out the FEED between two positions.
 fn feed(
+    rt: &impl Print,
     script: &[u8],
     at: usize,
     next: usize,
@@ -52,19 +53,20 @@ fn feed(
     reserves: &mut [u64],
     helds: &mut [u64],
     out: &mut [u8],
-) -> Running
+) -> io::Result<Running>
     requires { (at < next) × (next ≤ length script.now) }
 {
     if next - at <= 3 {
-        return running;
+        return Ok(running);
     }
     let from = at + 3;
     let bytes = &script[from..next];
-    session::feed(file, running, bytes, opens, reserves, helds, out)
+    session::feed(rt, file, running, bytes, opens, reserves, helds, out)
 }
 
 // Carries out a session's operation between two positions.
 fn serve(
+    rt: &impl Print,
     script: &[u8],
     at: usize,
     next: usize,
@@ -74,13 +76,16 @@ fn serve(
     reserves: &mut [u64],
     helds: &mut [u64],
     out: &mut [u8],
-) -> Running
+) -> io::Result<Running>
     requires { (at < next) × (next ≤ length script.now) }
 {
     match u8_at(script, at, 0) {
-        BEGIN => session::begin(file, out),
-        FEED => feed(script, at, next, file, running, opens, reserves, helds, out),
+        BEGIN => session::begin(rt, file, out),
+        FEED => feed(
+            rt, script, at, next, file, running, opens, reserves, helds, out,
+        ),
         REPEAT => session::repeat(
+            rt,
             file,
             running,
             u8_at(script, at, 5) as u8,
@@ -91,15 +96,16 @@ fn serve(
             out,
         ),
         _ => {
-            session::end(file, running, opens, reserves, helds, out);
-            write_all(STDOUT_FILENO, b"END\n");
-            running
+            session::end(rt, file, running, opens, reserves, helds, out)?;
+            rt.print("END\n")?;
+            Ok(running)
         }
     }
 }
 
 // Carries out the operation between two positions.
 fn carry_out(
+    rt: &impl Print,
     script: &[u8],
     at: usize,
     next: usize,
@@ -109,18 +115,19 @@ fn carry_out(
     reserves: &mut [u64],
     helds: &mut [u64],
     out: &mut [u8],
-) -> Case
+) -> io::Result<Case>
     requires { (at < next) × (next ≤ length script.now) }
 {
     let before = case.running;
     if u8_at(script, at, 0) < BEGIN {
-        return Case {
+        return Ok(Case {
             running: before,
             length: buffer::carry_out(script, at, bytes, case.length),
-        };
+        });
     }
     let n = file_length(bytes, case.length);
     let running = serve(
+        rt,
         script,
         at,
         next,
@@ -130,22 +137,23 @@ fn carry_out(
         reserves,
         helds,
         out,
-    );
-    Case {
+    )?;
+    Ok(Case {
         running,
         length: case.length,
-    }
+    })
 }
 
 // Carries out the operations in order.
 fn carry_out_all(
+    rt: &impl Print,
     script: &[u8],
     bytes: &mut [u8],
     opens: &mut [u64],
     reserves: &mut [u64],
     helds: &mut [u64],
     out: &mut [u8],
-) {
+) -> io::Result<()> {
     let mut case = Case {
         running: session::begun(false),
         length: 0,
@@ -153,37 +161,42 @@ fn carry_out_all(
     let mut at = 0;
     while at < script.len() {
         let next = after(script, at, operands(script, at));
-        case = carry_out(script, at, next, bytes, case, opens, reserves, helds, out);
+        case = carry_out(
+            rt, script, at, next, bytes, case, opens, reserves, helds, out,
+        )?;
         at = next;
     }
+    Ok(())
 }
 
 // The same over whole arrays, whose lengths their types give.
 fn run(
+    rt: &impl Print,
     script: &[u8],
     bytes: &mut [u8; BUFFER],
     opens: &mut [u64; HALL_ROUNDS],
     reserves: &mut [u64; HALL_ROUNDS],
     helds: &mut [u64; HALL_ROUNDS],
     out: &mut [u8; OUTPUT_BYTES],
-) {
-    carry_out_all(script, bytes, opens, reserves, helds, out);
+) -> io::Result<()> {
+    carry_out_all(rt, script, bytes, opens, reserves, helds, out)
 }
 
-fn main() {
+fn main(rt: HostRuntime) -> io::Result<()> {
     let mut input = [0u8; MAX_SCRIPT];
-    let n = read_full(STDIN_FILENO, &mut input);
+    let n = read_full(&mut rt.stdin(), &mut input)?;
     let mut bytes = [0u8; BUFFER];
     let mut opens = [0u64; HALL_ROUNDS];
     let mut reserves = [0u64; HALL_ROUNDS];
     let mut helds = [0u64; HALL_ROUNDS];
     let mut out = [0u8; OUTPUT_BYTES];
     run(
+        &rt,
         &input[..n],
         &mut bytes,
         &mut opens,
         &mut reserves,
         &mut helds,
         &mut out,
-    );
+    )
 }

@@ -1,10 +1,9 @@
 // A session of the program: its film file, bytes of its input, and their end. What the program prints is printed.
 use console::Session;
-use io::write_all;
-use libc::STDOUT_FILENO;
 use lines::Splitter;
 use program::{serve_end, serve_line};
 use script::buffer::file_length;
+use std::io;
 
 // bytes that are fed at once of those that are all the same
 const PART: usize = 4096;
@@ -28,20 +27,21 @@ pub fn begun(accepted: bool) -> Running {
 }
 
 // Prints the bytes at the front of a buffer.
-fn print(out: &[u8], length: usize) {
+fn print(rt: &impl Print, out: &[u8], length: usize) -> io::Result<()> {
     let n = file_length(out, length);
-    write_all(STDOUT_FILENO, &out[..n]);
+    rt.write_all(&out[..n])
 }
 
 // The program begins with this film file.
-pub fn begin(file: &[u8], out: &mut [u8]) -> Running {
+pub fn begin(rt: &impl Print, file: &[u8], out: &mut [u8]) -> io::Result<Running> {
     let first = program::begin(file, out);
-    print(out, first.length);
-    begun(first.accepted)
+    print(rt, out, first.length)?;
+    Ok(begun(first.accepted))
 }
 
 // The input's next bytes: each line that they end is answered.
 pub fn feed(
+    rt: &impl Print,
     file: &[u8],
     running: Running,
     bytes: &[u8],
@@ -49,9 +49,9 @@ pub fn feed(
     reserves: &mut [u64],
     helds: &mut [u64],
     out: &mut [u8],
-) -> Running {
+) -> io::Result<Running> {
     if !running.accepted {
-        return running;
+        return Ok(running);
     }
     let mut splitter = running.splitter;
     let mut session = running.session;
@@ -60,20 +60,21 @@ pub fn feed(
         let served = serve_line(
             file, session, splitter, bytes, at, opens, reserves, helds, out,
         );
-        print(out, served.length);
+        print(rt, out, served.length)?;
         splitter = served.splitter;
         session = served.session;
         at = served.next;
     }
-    Running {
+    Ok(Running {
         splitter,
         session,
         accepted: true,
-    }
+    })
 }
 
 // The input's next bytes, all the same.
 pub fn repeat(
+    rt: &impl Print,
     file: &[u8],
     running: Running,
     value: u8,
@@ -82,32 +83,33 @@ pub fn repeat(
     reserves: &mut [u64],
     helds: &mut [u64],
     out: &mut [u8],
-) -> Running {
+) -> io::Result<Running> {
     let part = [value; PART];
     let mut next = running;
     let mut left = count;
     while PART < left {
-        next = feed(file, next, &part, opens, reserves, helds, out);
+        next = feed(rt, file, next, &part, opens, reserves, helds, out)?;
         left -= PART;
     }
     let n = file_length(&part, left);
-    feed(file, next, &part[..n], opens, reserves, helds, out)
+    feed(rt, file, next, &part[..n], opens, reserves, helds, out)
 }
 
 // The input ends.
 pub fn end(
+    rt: &impl Print,
     file: &[u8],
     running: Running,
     opens: &mut [u64],
     reserves: &mut [u64],
     helds: &mut [u64],
     out: &mut [u8],
-) {
+) -> io::Result<()> {
     if !running.accepted {
-        return;
+        return Ok(());
     }
     let splitter = running.splitter;
     let session = running.session;
     let stepped = serve_end(file, session, splitter, opens, reserves, helds, out);
-    print(out, stepped.length);
+    print(rt, out, stepped.length)
 }

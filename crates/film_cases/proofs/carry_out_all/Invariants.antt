@@ -1,13 +1,6 @@
--- `film_cases::carry_out_all` is safe and ends. The invariant: the buffer is as long as it was. The measure is what is left of the
--- script, since every operation moves on. Assumes nothing.
-use Prim.Native.Nat.{◌-◌}
-use mathlib.Core.Path.{◌≡◌}
-use lib.ListN.{length}
-use borrow.Author.Rules.{rules}
+-- The measure is what is left of the script: every operation moves on.
+use Rattle.std.proofs.Common.{◌-◌, length}
 use Rattle.film_cases.proofs.carry_out_all.Given as goal
 
-abbrev pub invariant-loop-at : goal.invariant-loop-at
-invariant-loop-at l = length l.bytes ≡ length l.initial.bytes
-
 abbrev pub decreases-loop-at : goal.decreases-loop-at
-decreases-loop-at l = length l.script - l.at
+decreases-loop-at g l = length l.script - l.at

@@ -1,13 +1,6 @@
--- `schedule_cases::fill` is safe and ends. The invariant: the list is as long as it was. The measure is the places left. Assumes
--- nothing.
-use Prim.Native.Nat.{◌-◌}
-use mathlib.Core.Path.{◌≡◌}
-use lib.ListN.{length}
-use borrow.Author.Rules.{rules}
+-- The measure is the places left.
+use Rattle.std.proofs.Common.{◌-◌, length}
 use Rattle.schedule_cases.proofs.fill.Given as goal
 
-abbrev pub invariant-loop-i : goal.invariant-loop-i
-invariant-loop-i l = length l.out ≡ length l.initial.out
-
 abbrev pub decreases-loop-i : goal.decreases-loop-i
-decreases-loop-i l = length l.initial.out - l.i
+decreases-loop-i l = length l.out - l.i

@@ -1,11 +1,6 @@
--- `desk_cases::sums::absorb_lines` is safe and ends. Nothing has to hold from turn to turn; the measure is the lines left. Assumes
--- nothing.
-use Prim.Native.Nat.{◌-◌}
-use borrow.Author.Rules.{rules}
+-- The measure is the lines left.
+use Rattle.std.proofs.Common.{◌-◌}
 use Rattle.desk_cases.proofs.sums.absorb_lines.Given as goal
-
-abbrev pub invariant-loop-i : goal.invariant-loop-i
-invariant-loop-i l = Unit {0}
 
 abbrev pub decreases-loop-i : goal.decreases-loop-i
 decreases-loop-i l = 256 - l.i

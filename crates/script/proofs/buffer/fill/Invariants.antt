@@ -1,13 +1,9 @@
--- `script::buffer::fill` is safe and ends. The invariant: the buffer is as long as it was, and the end lies within it. The measure is
--- the bytes left. Assumes nothing.
-use Prim.Native.Nat.{◌-◌, ◌≤◌}
-use mathlib.Core.Path.{◌≡◌}
-use lib.ListN.{length}
-use borrow.Author.Rules.{rules}
+-- The end lies within the buffer. The measure is the bytes left.
+use Rattle.std.proofs.Common.{◌-◌, ◌≤◌, length}
 use Rattle.script.proofs.buffer.fill.Given as goal
 
 abbrev pub invariant-loop-i : goal.invariant-loop-i
-invariant-loop-i l = (length l.bytes ≡ length l.from) × (l.initial.bytes ≤ length l.from)
+invariant-loop-i l = l.end ≤ length l.bytes
 
 abbrev pub decreases-loop-i : goal.decreases-loop-i
-decreases-loop-i l = l.initial.bytes - l.i
+decreases-loop-i l = l.end - l.i
