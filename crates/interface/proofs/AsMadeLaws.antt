@@ -26,7 +26,8 @@ use Rattle.model.proofs.Steps.{step}
 use Rattle.model.proofs.Runs.{runs, good-first, opened-accepted, opened-expected}
 use Rattle.model.proofs.Order.{open-number}
 use Rattle.model.specs.Safety.{lines_in}
-use Rattle.model.proofs.Safety.{call_lines, lines_of_all, lines_for, Safe, safe}
+use Rattle.model.specs.Safety.{call_lines, lines_of_all, lines_for, Safe}
+use Rattle.model.proofs.Safety.{safe}
 use Rattle.model.specs.declared.Answer.{Answer}
 use Rattle.model.specs.declared.Answer.TheVariants.{Refused, Opened, Booked, Dropped, Played}
 use Rattle.model.specs.declared.Booking.{Booking}

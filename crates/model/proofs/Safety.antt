@@ -1,6 +1,6 @@
 -- Safety (demand 3): "In no round does a film send an unread byte, is a limit passed or is a cab given two films", for
 -- every list of calls.
-use Rattle.std.specs.Prelude.{◌≡◌, refl, Bool, true, cond, List, [], ◌∷◌, ◌++◌, map, ℕ, zero, suc, ◌-◌, ◌≤◌, min, max, length, get_or, take}
+use Rattle.std.specs.Prelude.{◌≡◌, refl, Bool, true, cond, List, [], ◌∷◌, ◌++◌, map, ℕ, zero, suc, ◌-◌, ◌≤◌, min, max, length, get_or}
 use Rattle.std.proofs.Common.{sym, ap, ap₂, ◌∙◌, subst, inl, inr, arith}
 use Rattle.std.proofs.Math.Seq.{take-append_seam}
 use Rattle.laws.specs.Tests.{left, right, all}
@@ -8,9 +8,9 @@ use Rattle.laws.specs.Questions.{refusal}
 use Rattle.limits.specs.Bounds.{max_bookings}
 use Rattle.retrieval.specs.Schedule.{totals}
 use Rattle.model.specs.Day.{Setting, State, record_of, sending, schedule_of, exists}
-use Rattle.model.specs.Fit.{Kept, Fits, Found, nowhere, at}
+use Rattle.model.specs.Fit.{Fits, Found, nowhere, at}
 use Rattle.model.specs.Questions.{has_name, file_question, book_own}
-use Rattle.model.specs.Report.{written, sum_read, sum_send, EachWithin, of_name}
+use Rattle.model.specs.Report.{written, EachWithin, of_name}
 use Rattle.model.specs.Calls.{Outcome, standing, open_call, Call, booking, dropping, playing, call, after_all}
 use Rattle.model.specs.PlainDay.{PlainDay, at_first, PlainOutcome, does, plain_book, plain_drop, plain_play, plain_number, plain_start, plain_call, plain_reports, plain_after, ever_taken}
 use Rattle.model.specs.Loss.{Rising}
@@ -29,35 +29,7 @@ use Rattle.model.specs.declared.Booking.{Booking}
 use Rattle.model.specs.declared.Request.{Request}
 use Rattle.model.specs.declared.Line.{Line}
 use Rattle.model.specs.declared.Answer.TheVariants.{Opened, Booked}
-use Rattle.model.specs.Safety.{lines_in}
-
-module _ (S : Setting) where
-  abbrev pub call_lines : State → Call → List Line
-  call_lines d c = lines_in (call S d c).answer (call S d c).report
-
-  -- of each call of a list
-  abbrev pub lines_of_all : State → List Call → List (List Line)
-  lines_of_all d [] = []
-  lines_of_all d (c ∷ cs) = call_lines d c ∷ lines_of_all (call S d c).state cs
-
-  -- the lines of the booking that stands under this name, for as long as it stands: the same name booked again is another
-  -- booking
-  abbrev pub lines_for : ℕ → State → List Call → List Line
-  lines_for n d [] = []
-  lines_for n d (c ∷ cs) =
-      of_name n (call_lines d c) ++ cond (has_name n (standing (call S d c).state)) (lines_for n (call S d c).state cs) []
-
-  -- of every list of calls on the day d
-  pub record Safe (d : State) : Type 0 where
-    -- "After every call the standing bookings keep limits and cabs in all T rounds", each with its own schedule
-    pub kept : (cs : List Call) → let bs = standing (after_all S d cs) in Kept S bs (map (schedule_of S) bs)
-    -- "In every report the reads plus loss(number of lines) are at most D and the held at most M."
-    pub within : (cs : List Call) → EachWithin S (lines_of_all d cs)
-    -- "on one booking's lines since it was accepted, the sends up to any line add up to at most the reads up to it"
-    pub unread : (before : List Call) (q : Request) (x : ℕ) → (call S (after_all S d before) (booking q)).answer ≡ Booked x
-        → (after : List Call) (k : ℕ)
-        → let lines = lines_for q.name (call S (after_all S d before) (booking q)).state after in
-        sum_send (take k lines) ≤ sum_read (take k lines)
+use Rattle.model.specs.Safety.{Safe, call_lines, lines_for, lines_in, lines_of_all}
 
 -- ---- the lines are the plain day's
 
