@@ -1,8 +1,8 @@
 -- The rule of the disk loss from its test.
-use Rattle.std.specs.Prelude.{ℕ, ◌*◌, ◌≡◌, true}
+use Rattle.std.specs.Prelude.{ℕ, ◌≡◌, true}
 use Rattle.std.proofs.Common.{leb-true, ltb-true}
 use Rattle.laws.specs.Tests.{left, right}
-use Rattle.loss.specs.Loss.{LossRule, loss_at, obeys, square_of_one}
+use Rattle.loss.specs.Loss.{LossRule, loss_at, obeys}
 
 -- an entry that passes the test keeps the rule
 pub obeyed : (k : ℕ) → obeys k (loss_at k) ≡ true → LossRule loss_at k
