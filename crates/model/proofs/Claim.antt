@@ -7,7 +7,7 @@ use Rattle.std.proofs.Common.{ap, ◌∙◌, arith}
 use Rattle.limits.specs.Bounds.{max_bookings}
 use Rattle.model.specs.Day.{Setting, State}
 use Rattle.model.specs.Fit.{Fits}
-use Rattle.model.specs.Calls.{sound, open_call, Call}
+use Rattle.model.specs.Calls.{open_call, Call}
 use Rattle.model.specs.PlainDay.{at_first, plain_after, ever_taken}
 use Rattle.model.specs.Expected.{arguments_of, expected}
 use Rattle.model.specs.Loss.{Rising}

@@ -2,7 +2,7 @@
 -- round of its window at which some underflow-free schedules, for it and for all standing bookings at their own reserves
 -- and starts, would fit the limits and leave its cabs free; it is refused 22 exactly when its window has no such round."
 -- Assumes nothing.
-use Rattle.std.specs.Prelude.{◌≡◌, refl, ◌↔◌, ◌⊎◌, Bool, true, false, cond, List, [], ◌∷◌, ◌++◌, ℕ, zero, suc, ◌+◌, ◌-◌}
+use Rattle.std.specs.Prelude.{◌≡◌, refl, ◌↔◌, Bool, true, false, cond, List, [], ◌∷◌, ◌++◌, ℕ, zero, suc, ◌-◌}
 use Rattle.std.proofs.Common.{sym, ◌∙◌, inl, inr, ⊎_elim, true≢false, eq-or-lt_of_le, arith}
 use Rattle.laws.specs.Questions.{refusal}
 use Rattle.limits.specs.Refusals.{no_start}

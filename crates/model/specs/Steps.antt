@@ -9,7 +9,7 @@ use Rattle.limits.specs.Bounds.{max_bookings}
 use Rattle.model.specs.Day.{Setting, State}
 use Rattle.model.specs.Fit.{Fits}
 use Rattle.model.specs.Report.{written}
-use Rattle.model.specs.Calls.{Outcome, standing, rounds_in_range, limits_in_range, sound}
+use Rattle.model.specs.Calls.{Outcome, rounds_in_range, limits_in_range}
 use Rattle.model.specs.PlainDay.{PlainDay, PlainOutcome}
 use Rattle.model.specs.Loss.{Rising}
 use Rattle.model.specs.Expected.{expected}

@@ -1,6 +1,6 @@
 -- A booking of the model and a stream of the code stand for each other: the same numbers, and the film's sizes where the stream
 -- says they stand. What the two say of a round is then the same. Assumes nothing.
-use Rattle.std.specs.Prelude.{◌≡◌, refl, Bool, cond, not, ◌&&◌, List, [], ◌∷◌, ℕ, ◌+◌, ◌-◌, length, leb}
+use Rattle.std.specs.Prelude.{◌≡◌, refl, Bool, cond, not, ◌&&◌, List, [], ◌∷◌, ℕ, ◌+◌, length, leb}
 use Rattle.std.proofs.Common.{sym, ap, ap₂, ◌∙◌, arith}
 use Rattle.laws.specs.Tests.{all}
 use Rattle.films.specs.Layout.{in_file, sizes_of}

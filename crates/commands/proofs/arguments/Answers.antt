@@ -1,7 +1,6 @@
 -- `commands::arguments` meets its contract, by cases on what follows the verb. Assumes nothing.
 use mathlib.Core.Path.{ap, ◌∙◌}
 use native.Mathlib.Omega.{arith}
-use borrow.Author.Rules.{rules}
 use borrow.Author.Tests.{eq-eqb, ne_eqb}
 use lib.ListN.{drop_of_length-le}
 use lib.Seq.{drop-cons}

@@ -1,7 +1,5 @@
 -- `commands::by_later_verb` meets its contract: the first verb that is the same decides. Assumes nothing.
 use mathlib.Core.Path.{sym, ◌∙◌}
-use borrow.Author.Rules.{rules}
-use lib.ListN.{drop}
 use Rattle.commands.proofs.Laws.{is-drop, is-play, is_none}
 use Rattle.commands.proofs.by_later_verb.Goals as goal
 

@@ -1,6 +1,5 @@
 -- `commands::by_verb` meets its contract: the first verb that is the same decides. Assumes nothing.
 use mathlib.Core.Path.{sym, ◌∙◌}
-use borrow.Author.Rules.{rules}
 use Rattle.commands.proofs.Laws.{is_open, is-book, is_later}
 use Rattle.commands.proofs.by_verb.Goals as goal
 

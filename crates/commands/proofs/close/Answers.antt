@@ -1,5 +1,4 @@
 -- `commands::close` meets its contract: the definition's tests are the code's. Assumes nothing.
-use borrow.Author.Rules.{rules}
 use borrow.Author.Tests.{lt-ltb, le-ltb, eq-eqb, ne_eqb}
 use Rattle.commands.specs.Scan.{closed}
 use Rattle.commands.proofs.close.Goals as goal

@@ -1,9 +1,5 @@
-use Prim.Native.Nat.{◌-◌, ◌≤◌}
-use mathlib.Core.Path.{◌≡◌, refl, sym, ◌∙◌}
+use mathlib.Core.Path.{refl, sym, ◌∙◌}
 use native.Mathlib.Omega.{arith}
-use borrow.Author.Rules.{rules}
-use lib.ListN.{length, drop}
-use Rattle.laws.specs.Fold.{fold}
 use Rattle.commands.specs.Scan.{stepped}
 use Rattle.commands.proofs.Laws.{walk-next, walk_end}
 use Rattle.commands.proofs.numerals.Goals as goal

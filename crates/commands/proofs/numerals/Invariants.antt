@@ -1,13 +1,10 @@
 -- `commands::numerals` meets its contract. The invariant: the rest of the line does to the scan what the whole does to
 -- the scan at the start. The measure is what is left of the line. Assumes nothing.
 use Prim.Native.Nat.{◌-◌, ◌≤◌}
-use mathlib.Core.Path.{◌≡◌, refl, sym, ◌∙◌}
-use native.Mathlib.Omega.{arith}
-use borrow.Author.Rules.{rules}
+use mathlib.Core.Path.{◌≡◌}
 use lib.ListN.{length, drop}
 use Rattle.laws.specs.Fold.{fold}
 use Rattle.commands.specs.Scan.{stepped}
-use Rattle.commands.proofs.Laws.{walk-next, walk_end}
 use Rattle.commands.proofs.numerals.Given as goal
 
 abbrev pub invariant-loop-i : goal.invariant-loop-i

@@ -1,7 +1,6 @@
 -- `commands::parse` meets its contract, by cases on the line's length and on what its arguments are. Assumes nothing.
 use mathlib.Core.Path.{sym, ap, ◌∙◌}
 use native.Mathlib.Omega.{arith}
-use borrow.Author.Rules.{rules}
 use borrow.Author.Tests.{lt-leb}
 use lib.ListN.{length, take}
 use lib.Seq.{length-take-le}

@@ -1,7 +1,6 @@
 -- `commands::read_digit` meets its contract: the definition's tests are the code's. Assumes nothing.
 use Prim.Native.Nat.{ℕ, ◌+◌, ◌-◌, ◌*◌, ◌/◌, ◌^◌, ◌<◌, ◌≤◌}
 use native.Mathlib.Omega.{arith}
-use borrow.Author.Rules.{rules}
 use borrow.Author.Tests.{lt-ltb, le-ltb, le-leb, lt-leb}
 use Rattle.commands.specs.Scan.{digit_read}
 use Rattle.commands.proofs.read_digit.Goals as goal

@@ -1,10 +1,8 @@
-use Prim.Native.Nat.{◌-◌, ◌<◌, ◌≤◌}
-use mathlib.Core.Path.{◌≡◌, refl, sym, ◌∙◌}
+use Prim.Native.Nat.{◌<◌}
+use mathlib.Core.Path.{refl, sym, ◌∙◌}
 use native.Mathlib.Omega.{arith}
-use borrow.Author.Rules.{rules}
 use borrow.Author.Tests.{eq-eqb, ne_eqb}
-use lib.ListN.{length, drop}
-use Rattle.commands.specs.Grammar.{same}
+use lib.ListN.{length}
 use Rattle.commands.proofs.Laws.{same_next, same_end, same-lengths}
 use Rattle.commands.proofs.same.Goals as goal
 

@@ -1,13 +1,9 @@
 -- `commands::same` meets its contract. The invariant: what is left of the two slices is the same exactly if the
 -- slices are. The measure is what is left. Assumes nothing.
-use Prim.Native.Nat.{◌-◌, ◌<◌, ◌≤◌}
-use mathlib.Core.Path.{◌≡◌, refl, sym, ◌∙◌}
-use native.Mathlib.Omega.{arith}
-use borrow.Author.Rules.{rules}
-use borrow.Author.Tests.{eq-eqb, ne_eqb}
+use Prim.Native.Nat.{◌-◌, ◌≤◌}
+use mathlib.Core.Path.{◌≡◌}
 use lib.ListN.{length, drop}
 use Rattle.commands.specs.Grammar.{same}
-use Rattle.commands.proofs.Laws.{same_next, same_end, same-lengths}
 use Rattle.commands.proofs.same.Given as goal
 
 abbrev pub invariant-loop-i : goal.invariant-loop-i

@@ -1,6 +1,5 @@
 -- `playing::play` meets its contract: a number of the questions up to 16 stands, else 23 and 11 decide. Assumes nothing.
 use mathlib.Core.Path.{sym, subst}
-use borrow.Author.Rules.{rules}
 use Rattle.playing.specs.Contract.{Plays}
 use Rattle.playing.specs.Laws.{standing-first, plays-refused}
 use Rattle.playing.specs.declared.Played.{Played}

@@ -1,7 +1,6 @@
 -- `playing::play_standing` meets its contract: the bookings are sound, so that the lines can be made, and 23 and 11 decide. Assumes nothing.
 use mathlib.Core.Path.{sym, subst, ◌∙◌}
 use native.Mathlib.Omega.{arith}
-use borrow.Author.Rules.{rules}
 use Rattle.playing.specs.Contract.{Plays}
 use Rattle.playing.specs.Laws.{own-after, standing-ready, plays-refused, plays-accepted}
 use Rattle.playing.specs.declared.Played.{Played}

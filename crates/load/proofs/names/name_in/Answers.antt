@@ -1,9 +1,5 @@
-use mathlib.Core.Path.{◌≡◌, sym, ◌∙◌}
-use Prim.Native.Nat.{◌-◌, ◌≤◌}
+use mathlib.Core.Path.{sym, ◌∙◌}
 use native.Mathlib.Omega.{arith}
-use borrow.Author.Rules.{rules}
-use lib.Seq.{slice}
-use Rattle.model.specs.Questions.{has_name}
 use Rattle.model.specs.Calls.{no_booking}
 use Rattle.load.proofs.NameLaws.{name-here, name-next, name-end}
 use Rattle.load.proofs.names.name_in.Goals as goal

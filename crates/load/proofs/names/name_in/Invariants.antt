@@ -1,13 +1,9 @@
 -- `load::names::name_in` meets its contract. The invariant: the answer is that of the bookings from i on. The measure is what is left of
 -- them. Assumes nothing.
-use mathlib.Core.Path.{◌≡◌, sym, ◌∙◌}
+use mathlib.Core.Path.{◌≡◌}
 use Prim.Native.Nat.{◌-◌, ◌≤◌}
-use native.Mathlib.Omega.{arith}
-use borrow.Author.Rules.{rules}
 use lib.Seq.{slice}
 use Rattle.model.specs.Questions.{has_name}
-use Rattle.model.specs.Calls.{no_booking}
-use Rattle.load.proofs.NameLaws.{name-here, name-next, name-end}
 use Rattle.load.proofs.names.name_in.Given as goal
 
 abbrev pub invariant-loop-i : goal.invariant-loop-i

@@ -1,10 +1,5 @@
-use mathlib.Core.Path.{◌≡◌, sym, ◌∙◌}
-use Prim.Native.Nat.{◌-◌, ◌≤◌}
+use mathlib.Core.Path.{sym, ◌∙◌}
 use native.Mathlib.Omega.{arith}
-use borrow.Author.Rules.{rules}
-use lib.ListN.{take}
-use lib.Seq.{slice}
-use Rattle.model.specs.Soundness.{names_differ}
 use Rattle.model.specs.Calls.{no_booking}
 use Rattle.load.proofs.NameLaws.{differ-no, differ-next, differ-end}
 use Rattle.load.proofs.names.names_differ.Goals as goal

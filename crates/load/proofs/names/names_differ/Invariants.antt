@@ -1,14 +1,10 @@
 -- `load::names::names_differ` meets its contract. The invariant: the answer is that of the bookings from i on. The measure is what is
 -- left of them. Assumes nothing.
-use mathlib.Core.Path.{◌≡◌, sym, ◌∙◌}
+use mathlib.Core.Path.{◌≡◌}
 use Prim.Native.Nat.{◌-◌, ◌≤◌}
-use native.Mathlib.Omega.{arith}
-use borrow.Author.Rules.{rules}
 use lib.ListN.{take}
 use lib.Seq.{slice}
 use Rattle.model.specs.Soundness.{names_differ}
-use Rattle.model.specs.Calls.{no_booking}
-use Rattle.load.proofs.NameLaws.{differ-no, differ-next, differ-end}
 use Rattle.load.proofs.names.names_differ.Given as goal
 
 abbrev pub invariant-loop-i : goal.invariant-loop-i

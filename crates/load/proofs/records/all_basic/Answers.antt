@@ -1,11 +1,5 @@
-use mathlib.Core.Path.{◌≡◌, sym, ◌∙◌}
-use Prim.Native.Nat.{◌≤◌, ◌-◌}
+use mathlib.Core.Path.{sym, ◌∙◌}
 use native.Mathlib.Omega.{arith}
-use borrow.Author.Rules.{rules}
-use borrow.Author.Tests.{not-true, not-false}
-use lib.ListN.{take}
-use lib.Seq.{slice}
-use Rattle.laws.specs.Tests.{all}
 use Rattle.load.specs.Stream.{no_stream}
 use Rattle.load.specs.Basic.{basic_of}
 use Rattle.load.specs.Lists.{all-no, all-next, all_end}

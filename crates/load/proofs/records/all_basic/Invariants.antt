@@ -1,16 +1,11 @@
 -- `load::records::all_basic` meets its contract. The invariant: the answer is that of the streams from i on. The measure is what is left of
 -- them. Assumes nothing.
-use mathlib.Core.Path.{◌≡◌, sym, ◌∙◌}
+use mathlib.Core.Path.{◌≡◌}
 use Prim.Native.Nat.{◌≤◌, ◌-◌}
-use native.Mathlib.Omega.{arith}
-use borrow.Author.Rules.{rules}
-use borrow.Author.Tests.{not-true, not-false}
 use lib.ListN.{take}
 use lib.Seq.{slice}
 use Rattle.laws.specs.Tests.{all}
-use Rattle.load.specs.Stream.{no_stream}
 use Rattle.load.specs.Basic.{basic_of}
-use Rattle.load.specs.Lists.{all-no, all-next, all_end}
 use Rattle.load.proofs.records.all_basic.Given as goal
 
 abbrev pub invariant-loop-i : goal.invariant-loop-i

@@ -1,5 +1,4 @@
 -- `load::records::basic` meets its contract: the first test that fails decides. Assumes nothing.
-use borrow.Author.Rules.{rules}
 use borrow.Author.Tests.{le-leb, lt-leb, eq-eqb, ne_eqb}
 use Rattle.load.specs.Basic.{basic_of}
 use Rattle.load.proofs.records.basic.Goals as goal

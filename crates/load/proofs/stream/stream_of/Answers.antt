@@ -1,6 +1,5 @@
 -- `load::stream::stream_of` meets its contract. Assumes nothing.
 use mathlib.Core.Path.{sym, ap, ◌∙◌}
-use borrow.Author.Rules.{rules}
 use Rattle.load.specs.Streams.{placed, stream_of}
 use Rattle.load.proofs.stream.stream_of.Goals as goal
 

@@ -1,17 +1,11 @@
 -- `load::stream::streams_of` meets its contract. The invariant: the first i places have their streams. The measure is what is left of
 -- the bookings. Assumes nothing.
-use mathlib.Core.Path.{◌≡◌, refl, ap, ap₂, ◌∙◌}
-use mathlib.Core.List.{List}
-use Prim.Native.Nat.{ℕ, ◌≤◌, ◌-◌}
-use native.Mathlib.Omega.{arith}
-use borrow.Author.Rules.{rules}
-use lib.ListN.{set}
+use mathlib.Core.Path.{◌≡◌}
+use Prim.Native.Nat.{◌≤◌, ◌-◌}
 use Rattle.limits.specs.Bounds.{max_bookings}
-use Rattle.model.specs.Calls.{no_booking}
-use Rattle.load.specs.Lists.{filled, filled_next}
+use Rattle.load.specs.Lists.{filled}
 use Rattle.load.specs.Stream.{no_stream}
 use Rattle.load.specs.Streams.{stream_of}
-use Rattle.load.specs.declared.stream.Stream.{Stream}
 use Rattle.load.proofs.stream.streams_of.Given as goal
 
 abbrev pub invariant-loop-i : goal.invariant-loop-i

@@ -1,7 +1,6 @@
 -- `playing::cabs::cabs_in` meets its contract. Assumes nothing.
 use mathlib.Core.Path.{◌∙◌}
 use native.Mathlib.Omega.{arith}
-use borrow.Author.Rules.{rules}
 use Rattle.playing.specs.CabLaws.{cabs-early, cabs-counted}
 use Rattle.playing.proofs.cabs.cabs_in.Goals as goal
 

@@ -1,6 +1,5 @@
 -- `playing::lines::line_of` meets its contract: a round of the stream, counted from its start. Assumes nothing.
 use mathlib.Core.Path.{ap}
-use borrow.Author.Rules.{rules}
 use Rattle.model.specs.declared.Booking.{Booking}
 use Rattle.model.specs.declared.Line.{Line}
 use Rattle.retrieval.specs.declared.Round.{Round}

@@ -1,6 +1,5 @@
 -- `questions::asked::day_holds` meets its contract: the first test that fails decides. Assumes nothing.
 use mathlib.Core.Path.{sym, ◌∙◌}
-use borrow.Author.Rules.{rules}
 use Rattle.questions.specs.Numbers.{day_holds}
 use Rattle.questions.proofs.asked.day_holds.Goals as goal
 

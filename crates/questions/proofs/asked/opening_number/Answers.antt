@@ -1,7 +1,5 @@
 -- `questions::asked::opening_number` meets its contract: the first question that says no gives its number. Assumes nothing.
 use mathlib.Core.Path.{sym, ◌∙◌}
-use borrow.Author.Rules.{rules}
-use borrow.Author.Tests.{not-true, not-false}
 use Rattle.questions.specs.Numbers.{opening_asks}
 use Rattle.questions.proofs.asked.opening_number.Goals as goal
 

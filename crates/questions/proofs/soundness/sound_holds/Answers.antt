@@ -1,5 +1,4 @@
 -- `questions::soundness::sound_holds` meets its contract: the first test that fails decides. Assumes nothing.
-use borrow.Author.Rules.{rules}
 use borrow.Author.Tests.{le-leb, lt-leb}
 use Rattle.limits.specs.Bounds.{max_bookings}
 use Rattle.questions.specs.Numbers.{sound_holds}

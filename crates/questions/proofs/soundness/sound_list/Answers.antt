@@ -2,8 +2,6 @@
 -- the model's of the bookings. Assumes nothing.
 use mathlib.Core.Path.{refl, sym, ap, ◌∙◌}
 use native.Mathlib.Omega.{arith}
-use borrow.Author.Rules.{rules}
-use borrow.Author.Tests.{not-true, not-false}
 use Rattle.films.specs.Catalogue.{catalogue_of}
 use Rattle.films.specs.declared.types.Catalogue.{Catalogue}
 use Rattle.load.specs.Streams.{streams_of}

@@ -1,8 +1,7 @@
 -- `questions::standing::standing_number` meets its contract: the first question that says no gives its number. Assumes
 -- nothing.
 use mathlib.Core.Path.{◌≡◌, sym, ap, ◌∙◌}
-use borrow.Author.Rules.{rules}
-use borrow.Author.Tests.{not-true, not-false, eq-eqb, ne_eqb}
+use borrow.Author.Tests.{eq-eqb, ne_eqb}
 use Rattle.films.specs.Questions.{verdict}
 use Rattle.films.proofs.CatalogueLaws.{catalogue-verdict}
 use Rattle.films.specs.declared.types.Catalogue.{Catalogue}
