@@ -9,7 +9,6 @@ use Rattle.films.specs.Decode.{films_of}
 use Rattle.films.proofs.Theorems.{accepts, films-of}
 use Rattle.retrieval.specs.Stored.{max_held}
 use Rattle.retrieval.proofs.Stored.{held-bound}
-use Rattle.model.specs.Day.{reserved, held}
 use Rattle.load.specs.Stream.{no_stream, length_of, open_in, holds_in, profile_of, open_count, reserved_in, held_in}
 use Rattle.load.specs.StreamLaws.{cond-most}
 use Rattle.load.specs.Basic.{Playable, EachOf}

@@ -5,13 +5,12 @@ use Rattle.std.proofs.Math.Path.{refl}
 use Rattle.std.proofs.Common.{sym, ap, ◌∙◌, subst, add-one, arith, length-take-le, get_or-take, eq-eqb, leb-true}
 use Rattle.limits.specs.Bounds.{max_bookings, max_day, max_prefetch, max_reserve}
 use Rattle.limits.specs.Refusals.{no_start}
-use Rattle.laws.specs.Tests.{all}
 use Rattle.laws.specs.Questions.{refusal, both-held}
 use Rattle.laws.specs.Words.{Bytes}
 use Rattle.films.specs.Questions.{verdict}
 use Rattle.films.specs.Catalogue.{catalogue_of}
 use Rattle.retrieval.specs.Stored.{InRange}
-use Rattle.model.specs.Day.{Setting, State, record_of, exists, ends}
+use Rattle.model.specs.Day.{Setting, State, record_of, exists}
 use Rattle.model.specs.Fit as Fit
 use Rattle.model.specs.Fit.{first_of}
 use Rattle.model.specs.Calls.{day_in_range, rounds_in_range, limits_in_range, sheet_long, sound, book_questions, start_of, book_with, book_call}
@@ -32,7 +31,6 @@ use Rattle.rounds.specs.Sheet as rounds
 use Rattle.rounds.specs.Sheet.{Places, DaySheet, Summable}
 use Rattle.rounds.specs.DaySheetLaws.{length-worked, day-again}
 use Rattle.search.specs.Fit.{query_of, start_at, fits_at, answer_of, Window}
-use Rattle.search.specs.declared.Found.{Found}
 use Rattle.search.specs.declared.Found.TheVariants.{At, Nowhere}
 use Rattle.questions.specs.Given.{setting_at}
 use Rattle.questions.specs.Numbers.{rounds_hold, day_holds, limits_hold, sheet_holds, sound_holds, standing_asks}

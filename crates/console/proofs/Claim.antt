@@ -13,7 +13,7 @@ use Rattle.console.specs.Contract.{printed}
 use Rattle.console.proofs.Stepping.{printed-text}
 use Rattle.console.proofs.PlainLaws.{Stands, keeps}
 
--- `fits` is any decision which lists of bookings fit in a setting (model/specs/FitLaws.antt, `dec_fits`, is one)
+-- `fits` is any decision which lists of bookings fit in a setting (model/proofs/FitLaws.antt, `dec_fits`, is one)
 module _ (file : List ℕ) (fits : (S : Setting) (bs : List Booking) → Dec (Fits S bs)) where
   -- the text of the desk's calls is that of the plain day
   pub session-text : (cs : List Command) (s : SessionState) (p : PlainSession) → Stands file fits s p

@@ -2,7 +2,6 @@
 use Rattle.std.specs.Prelude.{List, [], ◌∷◌, ℕ}
 use Rattle.films.specs.Layout.{encode}
 use Rattle.model.specs.Figures.{film1}
-use Rattle.model.specs.Calls as C
 use Rattle.commands.specs.Bytes.{bytes}
 
 -- "Film 1 has sizes 8, 8, 8, 2, 6, 4 .. It is the only film."

@@ -2,7 +2,6 @@
 -- nothing.
 use Rattle.std.specs.Prelude.{◌≡◌, length}
 use Rattle.limits.specs.Bounds.{max_bookings, hall_rounds}
-use Rattle.model.specs.Calls as C
 use Rattle.console.specs.Session.{SessionState}
 
 -- ---- Places

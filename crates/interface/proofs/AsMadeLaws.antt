@@ -16,7 +16,7 @@ use Rattle.model.specs.Fit.{Fits, Kept, Found, nowhere, at}
 use Rattle.model.specs.Questions.{has_name}
 use Rattle.model.specs.Report.{sum_read, sum_send, EachWithin, of_name}
 use Rattle.model.specs.Answers.{number_of}
-use Rattle.model.specs.Calls.{Outcome, standing, no_booking, open_questions, open_with, open_call, book_questions, start_of, book_with, book_call, drop_questions, drop_with, drop_call, play_questions, play_with, play_call, booking, call, reports, after_all}
+use Rattle.model.specs.Calls.{Outcome, no_booking, open_questions, open_with, open_call, book_questions, start_of, book_with, book_call, drop_questions, drop_with, drop_call, play_questions, play_with, play_call, booking, call, reports, after_all}
 use Rattle.model.specs.Code.{state_of, day_of, opened_day, day_opened}
 use Rattle.model.specs.PlainDay.{PlainDay, at_first, plain_call, plain_after, ever_taken}
 use Rattle.model.specs.Expected.{arguments_of, expected}

@@ -11,7 +11,6 @@ use Rattle.model.specs.declared.Day.{Day}
 use Rattle.model.specs.declared.Line.{Line}
 use Rattle.questions.specs.Given.{setting_at}
 use Rattle.playing.specs.Contract.{played}
-use Rattle.playing.specs.declared.Played as R
 use Rattle.interface.specs.Records.{stored}
 use Rattle.interface.specs.declared.play_call.Round.{Round}
 

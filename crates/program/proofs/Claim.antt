@@ -23,7 +23,7 @@ use Rattle.program.specs.Run.{reads_text, joined, run_text}
 use Rattle.program.proofs.Laws.{number-long}
 use Rattle.program.proofs.RunLaws.{reads-printed}
 
--- `fits` is any decision which lists of bookings fit in a setting (model/specs/FitLaws.antt, `dec_fits`, is one)
+-- `fits` is any decision which lists of bookings fit in a setting (model/proofs/FitLaws.antt, `dec_fits`, is one)
 module _ (fits : (S : Setting) (bs : List Booking) → Dec (Fits S bs)) where
   -- an input, in any reads: its lines are answered as the plain days of its accepted OPENs answer them
   pub input-plain : (file buffer : List ℕ) → output_bytes ≤ length buffer → (reads : List (List ℕ))

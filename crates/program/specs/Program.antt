@@ -27,7 +27,7 @@ file_number file = refusal ((leb (length file) hall_file, file_size) ∷ file_qu
 abbrev pub refusal_text : ℕ → List ℕ
 refusal_text number = answer_text 0 0 (Refused number)
 
--- `fits` is any decision which lists of bookings fit in a setting (model/specs/FitLaws.antt, `dec_fits`, is one)
+-- `fits` is any decision which lists of bookings fit in a setting (model/proofs/FitLaws.antt, `dec_fits`, is one)
 module _ (fits : (S : Setting) (bs : List Booking) → Dec (Fits S bs)) where
   -- "a refused one ends the program": its number, and no line is read; else the lines of the input are answered in turn
   abbrev pub text_by : ℕ → List ℕ → List ℕ → List ℕ

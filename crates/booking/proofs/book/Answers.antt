@@ -1,7 +1,6 @@
 -- `booking::book` meets its contract: a number before booking's own questions stands, else these decide; and by the model's call the
 -- start is the first that fits. Assumes nothing.
 use mathlib.Core.Path.{◌≡◌, sym, ap, ◌∙◌}
-use borrow.Author.Rules.{rules}
 use lib.ListN.{length}
 use Rattle.laws.specs.Questions.{refusal}
 use Rattle.model.specs.Code.{state_of}

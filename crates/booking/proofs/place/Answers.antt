@@ -2,7 +2,6 @@
 -- booking more makes the model's sheet. Assumes nothing.
 use mathlib.Core.Path.{◌≡◌, sym, ap, ◌∙◌}
 use native.Mathlib.Omega.{arith}
-use borrow.Author.Rules.{rules}
 use lib.ListN.{take}
 use Rattle.laws.specs.Words.{Bytes}
 use Rattle.films.specs.Catalogue.{catalogue_of}

@@ -1,6 +1,5 @@
 -- `dropping::drop_booking` meets its contract: a number before 19 stands and leaves everything, else the rest decides. Assumes nothing.
 use mathlib.Core.Path.{refl}
-use borrow.Author.Rules.{rules}
 use Rattle.dropping.specs.Laws.{standing-refused}
 use Rattle.dropping.proofs.drop_booking.Goals as goal
 

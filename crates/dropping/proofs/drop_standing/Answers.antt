@@ -2,7 +2,6 @@
 -- its sheet can be worked out. Assumes nothing.
 use mathlib.Core.Path.{refl, sym}
 use native.Mathlib.Omega.{arith}
-use borrow.Author.Rules.{rules}
 use Rattle.dropping.specs.Laws.{stands, name-refused, rest-stands, accepted-drops}
 use Rattle.dropping.proofs.drop_standing.Goals as goal
 

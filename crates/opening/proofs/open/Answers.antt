@@ -2,7 +2,6 @@
 -- first T places, which 11 says are there. Assumes nothing.
 use mathlib.Core.Path.{refl}
 use native.Mathlib.Omega.{arith}
-use borrow.Author.Rules.{rules}
 use Rattle.loss.specs.Loss.{loss_at}
 use Rattle.model.specs.Code.{setting_of, state_of}
 use Rattle.opening.specs.Contract.{asked}

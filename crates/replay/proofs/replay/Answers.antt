@@ -2,7 +2,6 @@
 -- day's, for any decision which lists of bookings fit. Assumes nothing.
 use mathlib.Core.Path.{◌∙◌}
 use native.Mathlib.Omega.{arith}
-use borrow.Author.Rules.{rules}
 use Rattle.films.specs.Questions.{verdict}
 use Rattle.films.specs.Decode.{films_of}
 use Rattle.replay.proofs.OpeningLaws.{refused-replays, opened-pictured, opened-replays}

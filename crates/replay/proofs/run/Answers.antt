@@ -1,11 +1,9 @@
-use Prim.Native.Nat.{◌-◌}
 use native.Mathlib.Omega.{arith}
-use borrow.Author.Rules.{rules}
 use borrow.Author.Tests.{not-true, not-false}
 use Rattle.model.specs.Code.{state_of}
 use Rattle.questions.specs.Given.{setting_at}
 use Rattle.replay.proofs.Pictured.{pictured-between}
-use Rattle.replay.proofs.LoopLaws.{Going, going-first, going_next, going-full, going_end}
+use Rattle.replay.proofs.LoopLaws.{going-first, going_next, going-full, going_end}
 use Rattle.replay.proofs.run.Goals as goal
 
 pub loop-i-init : goal.loop-i-init

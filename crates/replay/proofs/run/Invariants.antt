@@ -1,13 +1,7 @@
 -- `run` meets its contract. The loop's invariant: the whole run is that of the entries done, whose words stand in the log, and of
 -- the entries that follow, and the day is the plain day's picture. The measure is the entries that follow. Assumes nothing.
 use Prim.Native.Nat.{◌-◌}
-use native.Mathlib.Omega.{arith}
-use borrow.Author.Rules.{rules}
-use borrow.Author.Tests.{not-true, not-false}
-use Rattle.model.specs.Code.{state_of}
-use Rattle.questions.specs.Given.{setting_at}
-use Rattle.replay.proofs.Pictured.{pictured-between}
-use Rattle.replay.proofs.LoopLaws.{Going, going-first, going_next, going-full, going_end}
+use Rattle.replay.proofs.LoopLaws.{Going}
 use Rattle.replay.proofs.run.Given as goal
 
 abbrev pub invariant-loop-i : goal.invariant-loop-i

@@ -1,7 +1,6 @@
 -- `booking::append::sum_appended` meets its contract: the first count + 1 of the longer array are the streams with x behind them. Assumes
 -- nothing.
 use native.Mathlib.Omega.{arith}
-use borrow.Author.Rules.{rules}
 use Rattle.booking.specs.Append.{appends-summable, appends-sheet}
 use Rattle.booking.proofs.append.sum_appended.Goals as goal
 

@@ -1,7 +1,5 @@
 -- `booking::request::own_number` meets its contract: the first question that says no gives its number. Assumes nothing.
 use mathlib.Core.Path.{◌≡◌, sym, ap, ◌∙◌}
-use borrow.Author.Rules.{rules}
-use borrow.Author.Tests.{not-true, not-false}
 use Rattle.laws.specs.Questions.{refusal}
 use Rattle.films.specs.Sizes.{Stored}
 use Rattle.films.specs.declared.types.Catalogue.{Catalogue}

@@ -1,6 +1,5 @@
 -- `booking::request::requested` meets its contract: the stream is the record's at round 0. Assumes nothing.
 use mathlib.Core.Path.{sym, ap, ◌∙◌}
-use borrow.Author.Rules.{rules}
 use Rattle.model.specs.Day.{record_of}
 use Rattle.load.specs.Streams.{placed, stream_of}
 use Rattle.booking.proofs.request.requested.Goals as goal

@@ -1,7 +1,6 @@
 -- `booking::request::stream_number` meets its contract: the first question that says no gives its number. Assumes nothing.
 use mathlib.Core.Path.{sym, ◌∙◌}
-use borrow.Author.Rules.{rules}
-use borrow.Author.Tests.{le-leb, lt-leb, eq-eqb, ne_eqb, not-true, not-false}
+use borrow.Author.Tests.{le-leb, lt-leb, eq-eqb, ne_eqb}
 use Rattle.limits.specs.Bounds.{max_prefetch, max_reserve}
 use Rattle.booking.specs.Own.{stream_asks}
 use Rattle.booking.proofs.request.stream_number.Goals as goal

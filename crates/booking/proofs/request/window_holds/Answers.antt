@@ -1,7 +1,6 @@
 -- `booking::request::window_holds` meets its contract: the first test that fails decides. Assumes nothing.
 use Prim.Native.Nat.{◌+◌}
 use native.Mathlib.Omega.{arith}
-use borrow.Author.Rules.{rules}
 use borrow.Author.Tests.{le-leb, lt-leb}
 use Rattle.booking.specs.Own.{window_holds}
 use Rattle.booking.proofs.request.window_holds.Goals as goal

@@ -1,9 +1,8 @@
 use mathlib.Core.Path.{◌≡◌, refl}
-use Prim.Native.Nat.{◌+◌, ◌-◌, ◌≤◌, ◌<◌}
+use Prim.Native.Nat.{◌+◌, ◌≤◌, ◌<◌}
 use native.Mathlib.Omega.{arith}
-use borrow.Author.Rules.{rules}
 use lib.ListN.{length}
-use Rattle.dropping.specs.RemovalLaws.{moved, moved_none, moved_more, moved-closed}
+use Rattle.dropping.specs.RemovalLaws.{moved_none, moved_more, moved-closed}
 use Rattle.dropping.proofs.removal.close_gap.Goals as goal
 
 pub loop-j-init : goal.loop-j-init

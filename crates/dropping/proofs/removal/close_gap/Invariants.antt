@@ -1,11 +1,8 @@
 -- `dropping::removal::close_gap` meets its contract. The invariant: those from i + 1 up to j have moved down by one. The measure is what is
 -- left of the count. Assumes nothing.
-use mathlib.Core.Path.{◌≡◌, refl}
-use Prim.Native.Nat.{◌+◌, ◌-◌, ◌≤◌, ◌<◌}
-use native.Mathlib.Omega.{arith}
-use borrow.Author.Rules.{rules}
-use lib.ListN.{length}
-use Rattle.dropping.specs.RemovalLaws.{moved, moved_none, moved_more, moved-closed}
+use mathlib.Core.Path.{◌≡◌}
+use Prim.Native.Nat.{◌-◌, ◌≤◌, ◌<◌}
+use Rattle.dropping.specs.RemovalLaws.{moved}
 use Rattle.dropping.proofs.removal.close_gap.Given as goal
 
 abbrev pub invariant-loop-j : goal.invariant-loop-j

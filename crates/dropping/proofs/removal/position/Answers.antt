@@ -1,7 +1,5 @@
-use Prim.Native.Nat.{◌-◌, ◌≤◌}
 use native.Mathlib.Omega.{arith}
-use borrow.Author.Rules.{rules}
-use Rattle.dropping.specs.RemovalLaws.{Passed, passed_none, passed-more, position_here, position-none}
+use Rattle.dropping.specs.RemovalLaws.{passed_none, passed-more, position_here, position-none}
 use Rattle.dropping.proofs.removal.position.Goals as goal
 
 pub loop-i-init : goal.loop-i-init

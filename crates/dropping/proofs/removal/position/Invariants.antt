@@ -1,9 +1,7 @@
 -- `dropping::removal::position` meets its contract. The invariant: none of the first i bears the name. The measure is what is left of the
 -- count. Assumes nothing.
 use Prim.Native.Nat.{◌-◌, ◌≤◌}
-use native.Mathlib.Omega.{arith}
-use borrow.Author.Rules.{rules}
-use Rattle.dropping.specs.RemovalLaws.{Passed, passed_none, passed-more, position_here, position-none}
+use Rattle.dropping.specs.RemovalLaws.{Passed}
 use Rattle.dropping.proofs.removal.position.Given as goal
 
 abbrev pub invariant-loop-i : goal.invariant-loop-i

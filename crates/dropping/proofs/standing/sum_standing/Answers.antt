@@ -1,7 +1,6 @@
 -- `dropping::standing::sum_standing` meets its contract: the streams of a sound list are playable, and what they hold in a round, the
 -- bookings do. Assumes nothing.
 use native.Mathlib.Omega.{arith}
-use borrow.Author.Rules.{rules}
 use Rattle.dropping.specs.StandingLaws.{stands-summable, summed-worked}
 use Rattle.dropping.proofs.standing.sum_standing.Goals as goal
 

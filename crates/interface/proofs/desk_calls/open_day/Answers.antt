@@ -1,7 +1,6 @@
 -- `desk_calls::open_day` meets its contract: the opening by value, with its answer as plain numbers. Assumes nothing.
 use mathlib.Core.Path.{ap₂, ◌∙◌}
 use Rattle.interface.specs.Reply.{reply_of}
-use borrow.Author.Rules.{rules}
 use Rattle.interface.proofs.desk_calls.open_day.Goals as goal
 
 pub returns : goal.returns

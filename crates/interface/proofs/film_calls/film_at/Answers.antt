@@ -4,7 +4,6 @@ use Rattle.reader.specs.Reader.{start_of, step_of}
 use Rattle.reader.specs.declared.types.Reader.{Reader}
 use Rattle.reader.specs.declared.types.Step.{Step}
 use Rattle.interface.specs.FilmCalls.{film_of}
-use borrow.Author.Rules.{rules}
 use Rattle.interface.proofs.film_calls.film_at.Goals as goal
 
 pub returns : goal.returns

@@ -1,7 +1,6 @@
 -- `film_calls::size_at` meets its contract: the numbers of the round's size. Assumes nothing.
 use mathlib.Core.Path.{ap, ◌∙◌}
 use Rattle.interface.specs.FilmCalls.{size_of}
-use borrow.Author.Rules.{rules}
 use Rattle.interface.proofs.film_calls.size_at.Goals as goal
 
 pub returns : goal.returns

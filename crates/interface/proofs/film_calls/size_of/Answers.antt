@@ -1,7 +1,6 @@
 -- `film_calls::size_of` meets its contract: each arm has the numbers of its case. Assumes nothing.
 use mathlib.Core.Path.{sym, ap}
 use Rattle.interface.specs.FilmCalls.{size_of}
-use borrow.Author.Rules.{rules}
 use Rattle.interface.proofs.film_calls.size_of.Goals as goal
 
 pub returns-in-Bytes : goal.returns-in-Bytes

@@ -1,7 +1,6 @@
 -- `film_calls::summary_of` meets its contract: the numbers of the summary. Assumes nothing.
 use mathlib.Core.Path.{ap, ◌∙◌}
 use Rattle.interface.specs.FilmCalls.{figures_of}
-use borrow.Author.Rules.{rules}
 use Rattle.interface.proofs.film_calls.summary_of.Goals as goal
 
 pub returns : goal.returns

@@ -8,7 +8,6 @@ use Rattle.retrieval.specs.LeastReserve.{Least, least_reserve}
 use Rattle.planning.specs.Answers.{reserve_questions, reserved}
 use Rattle.interface.specs.PlanCalls.{reserve_of}
 use Rattle.interface.proofs.PlanCalls.{accepted-bytes}
-use borrow.Author.Rules.{rules}
 use Rattle.interface.proofs.plan_calls.reserve_for.Goals as goal
 
 pub returns : goal.returns

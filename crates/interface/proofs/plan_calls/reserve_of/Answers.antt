@@ -1,7 +1,6 @@
 -- `plan_calls::reserve_of` meets its contract: each arm has the numbers of its case. Assumes nothing.
 use mathlib.Core.Path.{sym, ap}
 use Rattle.interface.specs.PlanCalls.{reserve_of}
-use borrow.Author.Rules.{rules}
 use Rattle.interface.proofs.plan_calls.reserve_of.Goals as goal
 
 pub returns-in-Refused : goal.returns-in-Refused

@@ -1,7 +1,6 @@
 -- `rounds::play_round` meets its contract: the round as it is played, with the number of lines that its answer says. Assumes nothing.
 use mathlib.Core.Path.{refl}
 use Rattle.interface.proofs.Rounds.{counts}
-use borrow.Author.Rules.{rules}
 use Rattle.interface.proofs.play_call.play_round.Goals as goal
 
 pub returns : goal.returns

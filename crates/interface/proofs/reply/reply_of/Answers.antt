@@ -1,6 +1,5 @@
 -- `reply::reply_of` meets its contract: each arm's numbers are those of its case. Assumes nothing.
 use mathlib.Core.Path.{sym, ◌∙◌, ap}
-use borrow.Author.Rules.{rules}
 use Rattle.model.specs.declared.Answer.{Answer}
 use Rattle.interface.specs.Reply.{reply_of}
 use Rattle.interface.proofs.reply.reply_of.Goals as goal

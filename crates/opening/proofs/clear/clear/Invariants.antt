@@ -1,12 +1,9 @@
 -- `opening::clear::clear` meets its contract. The invariant: the first i places are 0 and the rest is as it was. The measure is what is left of
 -- the n places. Assumes nothing.
-use mathlib.Core.Path.{◌≡◌, ap, ◌∙◌}
-use mathlib.Core.List.{List, ◌++◌}
-use Prim.Native.Nat.{ℕ, ◌≤◌, ◌-◌}
-use native.Mathlib.Omega.{arith}
-use borrow.Author.Rules.{rules}
-use borrow.Author.Fill.{fill_more}
-use lib.ListN.{length, set, drop, replicate, length-set}
+use mathlib.Core.Path.{◌≡◌}
+use mathlib.Core.List.{◌++◌}
+use Prim.Native.Nat.{◌≤◌, ◌-◌}
+use lib.ListN.{length, drop, replicate}
 use Rattle.opening.proofs.clear.clear.Given as goal
 
 abbrev pub invariant-loop-i : goal.invariant-loop-i

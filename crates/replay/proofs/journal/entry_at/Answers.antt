@@ -1,7 +1,6 @@
 -- `journal::entry_at` meets its contract: the entry's eight words stand below the journal's length. Assumes nothing.
 use mathlib.Core.Path.{◌∙◌}
 use native.Mathlib.Nat.{add-zero}
-use borrow.Author.Rules.{rules}
 use Rattle.replay.proofs.journal.entry_at.Goals as goal
 
 pub returns : goal.returns

@@ -1,6 +1,5 @@
 -- `journal::entry_of` meets its contract, by the tests on the kind and the name. Assumes nothing.
 use mathlib.Core.Path.{sym}
-use borrow.Author.Rules.{rules}
 use Rattle.replay.proofs.JournalLaws.{entry-play, entry-book, entry-drop, entry-unnamed, entry-unknown}
 use Rattle.replay.proofs.journal.entry_of.Goals as goal
 

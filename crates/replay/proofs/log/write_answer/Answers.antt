@@ -1,5 +1,4 @@
 -- `log::write_answer` meets its contract, by cases on the answer. Assumes nothing.
-use borrow.Author.Rules.{rules}
 use Rattle.replay.proofs.log.write_answer.Goals as goal
 
 pub returns-in-Refused : goal.returns-in-Refused

@@ -1,7 +1,6 @@
 -- `log::write_line` meets its contract: four stores one after the other. Assumes nothing.
 use native.Mathlib.Omega.{arith}
 use lib.ListN.{length-set}
-use borrow.Author.Rules.{rules}
 use Rattle.replay.proofs.Writing.{wrote-four}
 use Rattle.replay.proofs.log.write_line.Goals as goal
 

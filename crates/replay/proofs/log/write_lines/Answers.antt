@@ -1,9 +1,5 @@
 use mathlib.Core.Path.{◌≡◌}
-use Prim.Native.Nat.{◌-◌, ◌≤◌}
 use native.Mathlib.Omega.{arith}
-use lib.ListN.{take}
-use borrow.Author.Rules.{rules}
-use Rattle.replay.specs.Log.{lines_words, Wrote}
 use Rattle.replay.proofs.Writing.{wrote_none, lines-stand, lines_next}
 use Rattle.replay.proofs.log.write_lines.Goals as goal
 

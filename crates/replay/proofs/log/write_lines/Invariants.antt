@@ -1,12 +1,8 @@
 -- `log::write_lines` meets its contract. The loop's invariant: the words of the first i lines were written. The measure is the lines
 -- that are left. Assumes nothing.
-use mathlib.Core.Path.{◌≡◌}
 use Prim.Native.Nat.{◌-◌, ◌≤◌}
-use native.Mathlib.Omega.{arith}
 use lib.ListN.{take}
-use borrow.Author.Rules.{rules}
 use Rattle.replay.specs.Log.{lines_words, Wrote}
-use Rattle.replay.proofs.Writing.{wrote_none, lines-stand, lines_next}
 use Rattle.replay.proofs.log.write_lines.Given as goal
 
 abbrev pub invariant-loop-i : goal.invariant-loop-i

@@ -1,7 +1,6 @@
 -- `log::write_three` meets its contract: three stores one after the other. Assumes nothing.
 use native.Mathlib.Omega.{arith}
 use lib.ListN.{length-set}
-use borrow.Author.Rules.{rules}
 use Rattle.replay.proofs.Writing.{wrote-three}
 use Rattle.replay.proofs.log.write_three.Goals as goal
 

@@ -5,7 +5,6 @@ use mathlib.Core.List.{[]}
 use Prim.Native.Nat.{◌+◌, ◌≤◌}
 use native.Mathlib.Omega.{arith}
 use lib.ListN.{length}
-use borrow.Author.Rules.{rules}
 use Rattle.limits.specs.Refusals.{command_form}
 use Rattle.films.specs.Questions.{verdict}
 use Rattle.films.proofs.CatalogueLaws.{catalogue-verdict}

@@ -1,6 +1,5 @@
 -- `step::step_book` meets its contract: what booking leaves, and its three words. Assumes nothing.
 use mathlib.Core.Path.{refl}
-use borrow.Author.Rules.{rules}
 use Rattle.model.specs.Code.{state_of}
 use Rattle.questions.specs.Given.{setting_at}
 use Rattle.replay.proofs.StepLaws.{booked-steps}

@@ -1,6 +1,5 @@
 -- `step::step_drop` meets its contract: what the drop leaves, and its three words. Assumes nothing.
 use mathlib.Core.Path.{refl}
-use borrow.Author.Rules.{rules}
 use Rattle.model.specs.Code.{state_of}
 use Rattle.questions.specs.Given.{setting_at}
 use Rattle.replay.proofs.StepLaws.{dropped-steps}

@@ -3,7 +3,6 @@ use mathlib.Core.Path.{refl}
 use Prim.Native.Nat.{◌-◌, ◌/◌, ◌<◌}
 use native.Mathlib.Omega.{arith}
 use lib.ListN.{length}
-use borrow.Author.Rules.{rules}
 use Rattle.playing.specs.Contract.{lines_in}
 use Rattle.replay.specs.Log.{answer_words}
 use Rattle.replay.proofs.Writing.{wrote-length}
