@@ -1,27 +1,31 @@
 -- What booking is to leave: the answer, the day, every record place and every place of the sheet, as the model's call says.
-use Rattle.std.specs.Prelude.{◌≡◌, List, ◌++◌, ℕ, take}
-use Rattle.laws.specs.Questions.{Question}
+use Rattle.std.specs.Prelude.{◌≡◌, List, ℕ, Result, Ok, Err}
+use Rattle.limits.specs.Refusals.{number_of}
+use Rattle.limits.specs.declared.refusals.Refusal.{Refusal}
 use Rattle.model.specs.Day.{Setting}
-use Rattle.model.specs.Questions.{book_own}
 use Rattle.model.specs.Calls as Calls
-use Rattle.model.specs.Code.{day_of}
-use Rattle.model.specs.declared.Booking.{Booking}
-use Rattle.model.specs.declared.Request.{Request}
-use Rattle.model.specs.declared.Day.{Day}
+use Rattle.model.specs.Calls.{book_call}
+use Rattle.model.specs.Code.{day_of, state_in}
 use Rattle.model.specs.declared.Answer.{Answer}
+use Rattle.model.specs.declared.Answer.TheVariants.{Refused, Booked}
+use Rattle.model.specs.declared.Request.{Request}
+use Rattle.model.specs.declared.Desk.{Desk}
+use Rattle.model.specs.declared.Sheet.{Sheet}
 use Rattle.questions.specs.Given.{setting_at}
-use Rattle.questions.specs.Numbers.{standing_asks}
 
-pub record Leaves (S : Setting) (out : Calls.Outcome) (a : Answer) (d : Day) (bs : List Booking) (o r h : List ℕ) : Type 0 where
+-- the answer that tells a start, or a refusal
+abbrev pub booked : Result ℕ Refusal → Answer
+booked (Ok start) = Booked start
+booked (Err refusal) = Refused (number_of refusal)
+
+pub record Leaves (S : Setting) (out : Calls.Outcome) (a : Answer) (desk : Desk) (sheet : Sheet) : Type 0 where
   pub answer : a ≡ out.answer
-  pub day : d ≡ day_of S out.state
-  pub rows : bs ≡ out.state.records
-  pub opens : o ≡ out.state.opens
-  pub reserves : r ≡ out.state.reserves
-  pub helds : h ≡ out.state.helds
+  pub day : desk.day ≡ day_of S out.state
+  pub rows : desk.rows ≡ out.state.records
+  pub opens : sheet.opens.now ≡ out.state.opens
+  pub reserves : sheet.reserves.now ≡ out.state.reserves
+  pub helds : sheet.helds.now ≡ out.state.helds
 
--- the questions but 22, over lists of these lengths: the model's `book_questions` by computation
-abbrev pub book_asks : List ℕ → Day → List Booking → ℕ → Request → ℕ → ℕ → ℕ → List Question
-book_asks f day rows places q opens reserves helds =
-    standing_asks f day rows places opens reserves helds
-    ++ book_own (setting_at f day) (take day.count rows) day.count places day.now q
+-- a booking of the request q, of any film file
+abbrev pub Books : List ℕ → Request → Desk → Sheet → Answer → Desk → Sheet → Type 0
+Books file q desk sheet = Leaves (setting_at file desk.day) (book_call (setting_at file desk.day) (state_in desk sheet) q)

@@ -1,4 +1,4 @@
--- Booking by value.
+-- Booking: its contract, its own questions, and a request placed.
 pub mod Contract
 pub mod Own
 pub mod Append

@@ -35,7 +35,7 @@ film-small f b e k h =
 -- ---- what the search asks, of a day's sheet
 
 module _ (f : List ℕ) (xs : List Stream) (T : ℕ) (o₀ r₀ h₀ o r h : List ℕ) (summed : DaySheet f xs T o₀ r₀ h₀ o r h) (few : length xs < max_bookings)
-    (good : EachOf (Playable f) (length xs) xs) (places : Places T o₀ r₀ h₀) (small : T ≤ max_day) where
+    (good : EachOf (Playable f) xs) (places : Places T o₀ r₀ h₀) (small : T ≤ max_day) where
   pub sheet-window : (y : Stream) (p : List ℕ) (D M last : ℕ) → last + length_of y ≤ T → Window (query_of y p xs o r h D M) last
   sheet-window y p D M last k =
       record {

@@ -1,146 +1,142 @@
-// Booking by value: equal to the model's call, for every input.
+// Booking: equal to the model's call, for every input.
 #![tactic(auto)]
 
 pub mod append;
 pub mod request;
 
-ghost use Rattle.std.specs.Prelude.{◌≡◌, length, take};
+ghost use Rattle.std.specs.Prelude.{◌≡◌, take};
 ghost use Rattle.laws.specs.Questions.{refusal};
-ghost use Rattle.films.specs.Catalogue.{catalogue_of};
-ghost use Rattle.model.specs.Calls.{book_questions, book_call};
-ghost use Rattle.model.specs.Code.{state_of};
+ghost use Rattle.model.specs.Calls.{book_questions};
+ghost use Rattle.model.specs.Code.{state_in, SameLists};
 ghost use Rattle.model.specs.FirstFit.{AnswersFirst};
 ghost use Rattle.model.specs.Fit.{FitsAt};
 ghost use Rattle.questions.specs.Given.{setting_at};
-ghost use Rattle.questions.specs.Numbers.{standing_asks};
-ghost use Rattle.booking.specs.Contract.{Leaves, book_asks};
+ghost use Rattle.questions.specs.Numbers.{asks_in};
+ghost use Rattle.booking.specs.Contract.{booked, Books};
+ghost use Rattle.booking.specs.Placed.{Passed};
 
-use append::{append, start_at, sum_appended};
-use films::catalogue::catalogue;
-use films::types::Catalogue;
+use append::sum_appended;
+use arrayvec::ArrayVec;
+use films::file::FilmFile;
 use limits::bounds::MAX_BOOKINGS;
-use limits::refusals::NO_START;
-use load::stream::streams_of;
-use model::{Answer, Booking, Day, Request};
-use questions::standing::standing_number;
-use request::{own_number, requested};
+use limits::refusals::Refusal;
+use load::stream::{Stream, streams_of};
+use model::{Answer, Desk, Request, Sheet};
+use questions::standing::read_standing;
+use request::{ask_own, record_of, requested};
 use rounds::sheet::sum_sheet;
-use search::{Found, first_start};
+use search::first_start;
 
-// What a booking gives: the answer, the day and the list's first 256 places.
-#[derive(Clone, Copy)]
-pub struct Outcome {
-    pub answer: Answer,
-    pub day: Day,
-    pub rows: [Booking; MAX_BOOKINGS],
-}
-
-// Places a request whose questions but 22 have passed: the sheet of the standing bookings is summed, and the first start
-// of the window that fits gets a record, with which the rounds that it changes are summed again.
+// Places a request whose questions but 22 have passed, by the streams of the standing bookings and its own: the sheet of the
+// standing bookings is summed, and the first start of the window that fits gets a record, with which the rounds that it changes
+// are summed again. The file is a slice, of which a proof knows that each byte is below 256, and so that a film's number fits 16 bits.
 fn place(
     file: &[u8],
-    c: Catalogue,
-    day: Day,
-    rows: [Booking; MAX_BOOKINGS],
-    places: u64,
-    q: Request,
-    opens: &mut [u64],
-    reserves: &mut [u64],
-    helds: &mut [u64],
-) -> Outcome
-    requires { (c ≡ catalogue_of file.now) × (refusal (book_asks file.now day rows places q (length opens.old) (length reserves.old) (length helds.old)) ≡ 0) }
-    ensures { Leaves (setting_at file.now day) (book_call (setting_at file.now day) (state_of day rows places opens.old reserves.old helds.old) q) result.answer result.day result.rows opens.new reserves.new helds.new }
+    standing: ArrayVec<Stream, MAX_BOOKINGS>,
+    stream: Stream,
+    desk: &mut Desk,
+    sheet: &mut Sheet<'_>,
+    request: Request,
+) -> Result<u64, Refusal>
+    requires { Passed file.now desk.old sheet.old request standing.items stream }
+    ensures leaves { Books file.now request desk.old sheet.old (booked result) desk.new sheet.new }
+    ensures places { desk.new.places ≡ desk.old.places }
+    ensures lists { SameLists sheet.old sheet.new }
 {
-    let count = day.count as usize;
-    let rounds = day.rounds as usize;
-    let xs = streams_of(c, rows, count);
-    sum_sheet(file, xs, count, 0, rounds, opens, reserves, helds);
-    let y = requested(c, q);
-    let found = first_start(
-        file, xs, count, y, day.disk, day.memory, opens, reserves, helds, q.first, q.last,
-    );
-    match found {
-        Found::At(s) => {
-            sum_appended(file, xs, count, start_at(y, s), opens, reserves, helds);
-            Outcome {
-                answer: Answer::Booked(s),
-                day: Day {
-                    rounds: day.rounds,
-                    disk: day.disk,
-                    memory: day.memory,
-                    now: day.now,
-                    count: day.count + 1,
-                },
-                rows: append(rows, count, q, s),
-            }
-        }
-        Found::Nowhere => Outcome {
-            answer: Answer::Refused(NO_START),
-            day,
-            rows,
-        },
+    sum_sheet(file, &standing, 0, desk.day.rounds as usize, sheet);
+    let Some(start) = first_start(
+        file,
+        &standing,
+        stream,
+        desk.day,
+        sheet,
+        request.first,
+        request.last,
+    ) else {
+        return Err(Refusal::NoStart);
+    };
+    let placed = Stream {
+        start: start as usize,
+        ..stream
+    };
+    sum_appended(file, standing, placed, sheet);
+    desk.rows[desk.day.count as usize] = record_of(request, start);
+    desk.day.count += 1;
+    Ok(start)
+}
+
+// A booking's start where the file's questions, 14, 15, 11 and 16 have passed.
+fn start_standing(
+    file: &FilmFile<'_>,
+    desk: &mut Desk,
+    sheet: &mut Sheet<'_>,
+    request: Request,
+) -> Result<u64, Refusal>
+    requires { refusal (asks_in file.now.bytes.now desk.old sheet.old) ≡ 0 }
+    ensures leaves { Books file.now.bytes.now request desk.old sheet.old (booked result) desk.new sheet.new }
+    ensures places { desk.new.places ≡ desk.old.places }
+    ensures lists { SameLists sheet.old sheet.new }
+{
+    ask_own(file, desk, request)?;
+    let standing = streams_of(&file.films, &desk.rows[..desk.day.count as usize]);
+    let stream = requested(&file.films, request);
+    place(file.bytes, standing, stream, desk, sheet, request)
+}
+
+// A booking's start.
+fn start(
+    file: &[u8],
+    desk: &mut Desk,
+    sheet: &mut Sheet<'_>,
+    request: Request,
+) -> Result<u64, Refusal>
+    ensures leaves { Books file.now request desk.old sheet.old (booked result) desk.new sheet.new }
+    ensures places { desk.new.places ≡ desk.old.places }
+    ensures lists { SameLists sheet.old sheet.new }
+{
+    let file = read_standing(
+        file,
+        desk,
+        sheet.opens.len(),
+        sheet.reserves.len(),
+        sheet.helds.len(),
+    )?;
+    start_standing(&file, desk, sheet, request)
+}
+
+// The answer that tells a booking's start, or its refusal.
+fn answer(start: Result<u64, Refusal>) -> Answer
+    ensures { result ≡ booked start }
+{
+    match start {
+        Ok(start) => Answer::Booked(start),
+        Err(refusal) => Answer::Refused(refusal.number()),
     }
 }
 
-// Booking where the file's questions, 14, 15, 11 and 16 have passed; c is the file's catalogue.
+// Booking where the file's questions, 14, 15, 11 and 16 have passed.
 pub fn book_standing(
-    file: &[u8],
-    c: Catalogue,
-    day: Day,
-    rows: [Booking; MAX_BOOKINGS],
-    places: u64,
-    q: Request,
-    opens: &mut [u64],
-    reserves: &mut [u64],
-    helds: &mut [u64],
-) -> Outcome
-    requires { (c ≡ catalogue_of file.now) × (refusal (standing_asks file.now day rows places (length opens.old) (length reserves.old) (length helds.old)) ≡ 0) }
-    ensures { Leaves (setting_at file.now day) (book_call (setting_at file.now day) (state_of day rows places opens.old reserves.old helds.old) q) result.answer result.day result.rows opens.new reserves.new helds.new }
+    file: &FilmFile<'_>,
+    desk: &mut Desk,
+    sheet: &mut Sheet<'_>,
+    request: Request,
+) -> Answer
+    requires { refusal (asks_in file.now.bytes.now desk.old sheet.old) ≡ 0 }
+    ensures leaves { Books file.now.bytes.now request desk.old sheet.old result desk.new sheet.new }
+    ensures places { desk.new.places ≡ desk.old.places }
+    ensures lists { SameLists sheet.old sheet.new }
 {
-    let number = own_number(file, c, day, rows, places, q);
-    if number != 0 {
-        return Outcome {
-            answer: Answer::Refused(number),
-            day,
-            rows,
-        };
-    }
-    place(file, c, day, rows, places, q, opens, reserves, helds)
+    answer(start_standing(file, desk, sheet, request))
 }
 
 // Booking: the answer, the day, every record place and every place of the sheet afterwards are the model's, for every input.
 // Where the questions before 22 pass, a booking starts in the first round of its window at which some schedules fit, and is
 // refused 22 exactly when there is none.
-pub fn book(
-    file: &[u8],
-    day: Day,
-    rows: [Booking; MAX_BOOKINGS],
-    places: u64,
-    q: Request,
-    opens: &mut [u64],
-    reserves: &mut [u64],
-    helds: &mut [u64],
-) -> Outcome
-    ensures leaves { Leaves (setting_at file.now day) (book_call (setting_at file.now day) (state_of day rows places opens.old reserves.old helds.old) q) result.answer result.day result.rows opens.new reserves.new helds.new }
-    ensures first { refusal (book_questions (setting_at file.now day) (state_of day rows places opens.old reserves.old helds.old) q) ≡ 0 → AnswersFirst (FitsAt (setting_at file.now day) (take day.count rows) q) q.first q.last result.answer }
+pub fn book(file: &[u8], desk: &mut Desk, sheet: &mut Sheet<'_>, request: Request) -> Answer
+    ensures leaves { Books file.now request desk.old sheet.old result desk.new sheet.new }
+    ensures first { refusal (book_questions (setting_at file.now desk.old.day) (state_in desk.old sheet.old) request) ≡ 0 → AnswersFirst (FitsAt (setting_at file.now desk.old.day) (take desk.old.day.count desk.old.rows) request) request.first request.last result }
+    ensures places { desk.new.places ≡ desk.old.places }
+    ensures lists { SameLists sheet.old sheet.new }
 {
-    let c = catalogue(file);
-    let number = standing_number(
-        file,
-        c,
-        day,
-        rows,
-        places,
-        opens.len(),
-        reserves.len(),
-        helds.len(),
-    );
-    if number != 0 {
-        return Outcome {
-            answer: Answer::Refused(number),
-            day,
-            rows,
-        };
-    }
-    book_standing(file, c, day, rows, places, q, opens, reserves, helds)
+    answer(start(file, desk, sheet, request))
 }

@@ -1,4 +1,4 @@
 -- What the functions' proofs share.
-pub mod Laws
-pub mod Scanning
-pub mod Parsing
+mod Words
+mod Numerals
+mod Commands

@@ -1,11 +1,12 @@
 -- The command grammar (document 01, 'The program').
-use Rattle.std.specs.Prelude.{ℕ, ◌+◌, ◌-◌, ◌*◌, ◌^◌, Bool, true, false, cond, ◌&&◌, List, [], ◌∷◌, map, leb, ltb, eqb, length, get_or}
+use Rattle.std.specs.Prelude.{ℕ, ◌+◌, ◌-◌, ◌*◌, ◌^◌, Bool, cond, ◌&&◌, List, [], ◌∷◌, map, leb, ltb, eqb, length, get_or, Option, Some, None}
+use Rattle.std.specs.Str.{bytes_eq}
 use Rattle.limits.specs.Bounds.{max_line, max_digits}
 use Rattle.limits.specs.Refusals.{command_form}
 use Rattle.laws.specs.Tests.{all}
 use Rattle.commands.specs.Bytes.{space, digit_zero, digit_nine, bytes}
 use Rattle.commands.specs.declared.Command.{Command}
-use Rattle.commands.specs.declared.Command.TheVariants.{Open, Book, Drop, Play, Bad}
+use Rattle.commands.specs.declared.Command.TheVariants.{Open, Book, Drop, Play}
 
 -- ---- Words: "with single spaces". Two spaces together, one in front or one at the end part off an empty word.
 
@@ -40,13 +41,6 @@ is_name n = ltb n (2 ^ 32)
 
 -- ---- Commands: "OPEN T D M; BOOK name film p b cabs first last; DROP name; PLAY"
 
--- the same bytes
-abbrev pub same : List ℕ → List ℕ → Bool
-same [] [] = true
-same [] (b ∷ w) = false
-same (a ∷ v) [] = false
-same (a ∷ v) (b ∷ w) = eqb a b && same v w
-
 -- the verbs, as fixed strings of bytes
 abbrev pub open_word : List ℕ
 open_word = bytes "OPEN"
@@ -61,14 +55,14 @@ abbrev pub play_word : List ℕ
 play_word = bytes "PLAY"
 
 -- each command from the numerals after its verb: T D M
-unfoldable pub open_of : List ℕ → Command
-open_of ns = cond (eqb (length ns) 3) (Open (get_or ns 0 0) (get_or ns 1 0) (get_or ns 2 0)) Bad
+unfoldable pub open_of : List ℕ → Option Command
+open_of ns = cond (eqb (length ns) 3) (Some (Open (get_or ns 0 0) (get_or ns 1 0) (get_or ns 2 0))) None
 
 -- name film p b cabs first last
-unfoldable pub book_of : List ℕ → Command
+unfoldable pub book_of : List ℕ → Option Command
 book_of ns =
     cond (eqb (length ns) 7 && is_name (get_or ns 0 0))
-    (Book
+    (Some (Book
     (record {
       name = get_or ns 0 0;
       film = get_or ns 1 0;
@@ -77,34 +71,31 @@ book_of ns =
       cabs = get_or ns 4 0;
       first = get_or ns 5 0;
       last = get_or ns 6 0;
-    }))
-    Bad
+    })))
+    None
 
 -- name
-unfoldable pub drop_of : List ℕ → Command
-drop_of ns = cond (eqb (length ns) 1 && is_name (get_or ns 0 0)) (Drop (get_or ns 0 0)) Bad
+unfoldable pub drop_of : List ℕ → Option Command
+drop_of ns = cond (eqb (length ns) 1 && is_name (get_or ns 0 0)) (Some (Drop (get_or ns 0 0))) None
 
 -- nothing
-unfoldable pub play_of : List ℕ → Command
-play_of ns = cond (eqb (length ns) 0) Play Bad
+unfoldable pub play_of : List ℕ → Option Command
+play_of ns = cond (eqb (length ns) 0) (Some Play) None
 
 -- the verb decides
-unfoldable pub by_verb : List ℕ → List ℕ → Command
+unfoldable pub by_verb : List ℕ → List ℕ → Option Command
 by_verb verb ns =
-    cond (same verb open_word) (open_of ns)
-    (cond (same verb book_word) (book_of ns) (cond (same verb drop_word) (drop_of ns) (cond (same verb play_word) (play_of ns) Bad)))
+    cond (bytes_eq verb open_word) (open_of ns)
+    (cond (bytes_eq verb book_word) (book_of ns) (cond (bytes_eq verb drop_word) (drop_of ns) (cond (bytes_eq verb play_word) (play_of ns) None)))
 
 -- the paper's number for each case: 24 for a line that is no command, and none, 0, for a command
-abbrev pub command_number : Command → ℕ
-command_number (Open t d m) = 0
-command_number (Book q) = 0
-command_number (Drop n) = 0
-command_number Play = 0
-command_number Bad = command_form
+abbrev pub command_number : Option Command → ℕ
+command_number (Some c) = 0
+command_number None = command_form
 
 -- "Is the line one of these, at most 200 bytes, with numerals of 1 to 20 digits fitting 64 bits, and names 32? 24."
-unfoldable pub command_of : List ℕ → Command
+unfoldable pub command_of : List ℕ → Option Command
 command_of line =
     cond (leb (length line) max_line && all is_numeral (later_words line))
     (by_verb (first_word line) (map value (later_words line)))
-    Bad
+    None

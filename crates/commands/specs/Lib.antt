@@ -3,4 +3,3 @@ pub mod Bytes
 pub mod Grammar
 pub mod Words
 pub mod Values
-pub mod Scan

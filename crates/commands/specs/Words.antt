@@ -1,6 +1,7 @@
 -- A line's words are its bytes between single spaces: joined by single spaces they are the line, and no word holds a space.
 -- Assumes nothing.
-use Rattle.std.specs.Prelude.{ℕ, ◌≡◌, refl, Bool, true, false, cond, not, List, [], ◌∷◌, ◌++◌, eqb}
+use Rattle.std.specs.Prelude.{ℕ, ◌≡◌, refl, Bool, true, false, cond, not, List, [], ◌∷◌, ◌++◌, eqb, Option, Some, None}
+use Rattle.std.specs.Borrow.{Bor}
 use Rattle.std.proofs.Common.{sym, ap, ◌∙◌, eqb-true}
 use Rattle.laws.specs.Tests.{all, left, right, join}
 use Rattle.commands.specs.Bytes.{space}
@@ -37,3 +38,8 @@ words-plain (b ∷ l) = go (eqb b space) refl (words-plain l)
     go false e ih =
         join (join (ap not e) (left (all plain (first_word l)) (all (all plain) (later_words l)) ih))
         (right (all plain (first_word l)) ih)
+
+-- the words of what follows a space, if one does
+abbrev pub words_from : Option (Bor (List ℕ)) → List (List ℕ)
+words_from None = []
+words_from (Some rest) = first_word rest.now ∷ later_words rest.now

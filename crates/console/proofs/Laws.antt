@@ -1,5 +1,5 @@
 -- How many lines an outcome tells, and that the text of a command fits the output buffer. Assumes nothing.
-use Rattle.std.specs.Prelude.{◌≡◌, take, drop, leb, ltb}
+use Rattle.std.specs.Prelude.{◌≡◌, take, drop, leb, ltb, Option, Some, None}
 use Rattle.std.proofs.Math.Path.{refl, sym, ap}
 use Rattle.std.proofs.Common.{◌∙◌, take_at}
 use mathlib.Core.List.{List, [], ◌∷◌}
@@ -23,7 +23,7 @@ use Rattle.questions.specs.Given.{setting_at}
 use Rattle.opening.specs.Contract.{asked}
 use Rattle.playing.specs.Contract.{lines_in, lines_for}
 use Rattle.commands.specs.declared.Command.{Command}
-use Rattle.commands.specs.declared.Command.TheVariants.{Open, Book, Drop, Play, Bad}
+use Rattle.commands.specs.declared.Command.TheVariants.{Open, Book, Drop, Play}
 use Rattle.console.specs.Session.{SessionState, lent_by, blank_report, outcome_of, lines_told}
 
 -- ---- Calls that write no report
@@ -120,15 +120,15 @@ pub record Told (o : Outcome) : Type 0 where
 silent-told : (o : Outcome) → lines_in o.answer ≡ 0 → Told o
 silent-told o e = record { count = ap length (silent o e) ∙ sym e; few = omega arith }
 
-pub told : (file : List ℕ) (s : SessionState) (c : Command) → Told (outcome_of file s c)
+pub told : (file : List ℕ) (s : SessionState) (c : Option Command) → Told (outcome_of file s c)
 unfolding outcome_of
-told file s (Open rounds disk memory) =
+told file s (Some (Open rounds disk memory)) =
     let S = setting_at file (asked rounds disk memory) in
     silent-told (open_call S (lent_by s)) (open-silent S (lent_by s))
-told file s (Book q) = let S = setting_at file s.day in silent-told (book_call S (lent_by s) q) (book-silent S (lent_by s) q)
-told file s (Drop name) =
+told file s (Some (Book q)) = let S = setting_at file s.day in silent-told (book_call S (lent_by s) q) (book-silent S (lent_by s) q)
+told file s (Some (Drop name)) =
     let S = setting_at file s.day in silent-told (drop_call S (lent_by s) name) (drop-silent S (lent_by s) name)
-told file s Play =
+told file s (Some Play) =
     let S = setting_at file s.day in
     record { count = play-count S (lent_by s) blank_report; few = play-few S (lent_by s) blank_report }
-told file s Bad = record { count = refl; few = omega arith }
+told file s None = record { count = refl; few = omega arith }

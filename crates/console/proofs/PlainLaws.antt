@@ -1,5 +1,5 @@
 -- Where a session stands by the model and by the plain day, and that a command keeps the two together. Assumes nothing.
-use Rattle.std.specs.Prelude.{◌≡◌, Bool, true, false, cond, eqb, drop, replicate}
+use Rattle.std.specs.Prelude.{◌≡◌, Bool, true, false, cond, eqb, drop, replicate, Option, Some, None}
 use Rattle.std.proofs.Math.Path.{refl, sym, ap, subst}
 use Rattle.std.proofs.Common.{ap₂, ◌∙◌, arith, length-append, length-drop}
 use mathlib.Core.List.{List, [], ◌++◌}
@@ -31,9 +31,9 @@ use Rattle.questions.specs.Given.{setting_at}
 use Rattle.opening.specs.Contract.{asked}
 use Rattle.playing.specs.Contract.{lines_in}
 use Rattle.commands.specs.declared.Command.{Command}
-use Rattle.commands.specs.declared.Command.TheVariants.{Open, Book, Drop, Play, Bad}
+use Rattle.commands.specs.declared.Command.TheVariants.{Open, Book, Drop, Play}
 use Rattle.text.specs.Text.{answer_text, report_text}
-use Rattle.console.specs.Session.{SessionState, start_session, at_start, lent_by, left_in, blank_report, outcome_of, day_after, state_after, name_in, lines_told, text_of}
+use Rattle.console.specs.Session.{SessionState, start_desk, at_start, lent_by, left_in, blank_report, outcome_of, day_after, state_after, name_in, lines_told, text_of}
 use Rattle.console.specs.PlainSession.{PlainSession, unopened, on_day, PlainTold, round_of, refused_in, open_number, plain_open, number_before, plain_command, plain_text}
 use Rattle.console.specs.PlainParts.{Places}
 use Rattle.console.proofs.PlainParts.{plain-count, told_same, start-places, worked-places, open-number, open-short}
@@ -89,18 +89,18 @@ module _ (file : List ℕ) (fits : (S : Setting) (bs : List Booking) → Dec (Fi
 
   -- ---- A command
 
-  pub record Keeps (s : SessionState) (p : PlainSession) (c : Command) : Type 0 where
+  pub record Keeps (s : SessionState) (p : PlainSession) (c : Option Command) : Type 0 where
     pub text : text_of file s c ≡ plain_text file fits p c
     pub after : Stands (state_after file s c) (plain_command file fits p c).after
 
-  text_same : (s : SessionState) (p : PlainSession) (c : Command) → Stands s p
+  text_same : (s : SessionState) (p : PlainSession) (c : Option Command) → Stands s p
       → (outcome_of file s c).answer ≡ (plain_command file fits p c).answer
       → lines_told (outcome_of file s c) ≡ (plain_command file fits p c).lines
       → text_of file s c ≡ plain_text file fits p c
   text_same s p c w a l = λ i. answer_text (name_in c) (stands-round s p w i) (a i) ++ report_text (l i)
 
   -- refused: nothing changes
-  refused-keeps : (s : SessionState) (p : PlainSession) (c : Command) (k : ℕ) → Stands s p → (outcome_of file s c).answer ≡ Refused k
+  refused-keeps : (s : SessionState) (p : PlainSession) (c : Option Command) (k : ℕ) → Stands s p → (outcome_of file s c).answer ≡ Refused k
       → (outcome_of file s c).state ≡ lent_by s → day_after file s c ≡ s.day → plain_command file fits p c ≡ refused_in p k → Keeps s p c
   refused-keeps s p c k w a d y e =
       let none : lines_told (outcome_of file s c) ≡ [] = ap (λ (x : Answer). take (lines_in x) (outcome_of file s c).report) a in
@@ -110,9 +110,9 @@ module _ (file : List ℕ) (fits : (S : Setting) (bs : List Booking) → Dec (Fi
         after = rw (same, e) w;
       }
 
-  bad-keeps : (s : SessionState) (p : PlainSession) → Stands s p → Keeps s p Bad
+  bad-keeps : (s : SessionState) (p : PlainSession) → Stands s p → Keeps s p None
   unfolding outcome_of day_after
-  bad-keeps s p w = refused-keeps s p Bad command_form w refl refl refl refl
+  bad-keeps s p w = refused-keeps s p None command_form w refl refl refl refl
 
   module _ (s : SessionState) (p : PlainSession) (rounds disk memory : ℕ) (w : Stands s p) where
     abbrev day : Day
@@ -124,8 +124,8 @@ module _ (file : List ℕ) (fits : (S : Setting) (bs : List Booking) → Dec (Fi
     abbrev lent : State
     lent = lent_by s
 
-    abbrev opening : Command
-    opening = Open rounds disk memory
+    abbrev opening : Option Command
+    opening = Some (Open rounds disk memory)
 
     open_by : (n : ℕ) → open_number S ≡ n → refusal (open_questions S lent) ≡ n → Keeps s p opening
     unfolding outcome_of day_after open_call
@@ -166,7 +166,7 @@ module _ (file : List ℕ) (fits : (S : Setting) (bs : List Booking) → Dec (Fi
   abbrev told_on : Day → PlainOutcome → PlainTold
   told_on day o = record { answer = o.answer; lines = o.lines; after = on_day day o.after }
 
-  call-keeps : (s : SessionState) (day : Day) (p : PlainDay) (w : OnDay s day p) (c : Command) (k : Call)
+  call-keeps : (s : SessionState) (day : Day) (p : PlainDay) (w : OnDay s day p) (c : Option Command) (k : Call)
       → let S = setting_at file day in
       let E = expected S (lent_by w.first) p w.taken in
       outcome_of file (session_of day E) c ≡ call S E k → day_after file (session_of day E) c ≡ day_of S (call S E k).state
@@ -210,7 +210,7 @@ module _ (file : List ℕ) (fits : (S : Setting) (bs : List Booking) → Dec (Fi
   -- ---- A call before OPEN
 
   abbrev no_setting : Setting
-  no_setting = setting_at file start_session.day
+  no_setting = setting_at file start_desk.day
 
   before-some : number_before file fits ≡ 0 → ⊥
   before-some = go (eqb (verdict file) 0) refl
@@ -224,7 +224,7 @@ module _ (file : List ℕ) (fits : (S : Setting) (bs : List Booking) → Dec (Fi
     answer : o.answer ≡ Refused n
     state : o.state ≡ lent_by at_start
 
-  before-keeps : (s : SessionState) (c : Command) → s ≡ at_start → Refuses (number_before file fits) (outcome_of file at_start c)
+  before-keeps : (s : SessionState) (c : Option Command) → s ≡ at_start → Refuses (number_before file fits) (outcome_of file at_start c)
       → day_after file at_start c ≡ day_of no_setting (outcome_of file at_start c).state
       → plain_command file fits unopened c ≡ refused_in unopened (number_before file fits) → Keeps s unopened c
   before-keeps s c w r y e =
@@ -257,13 +257,13 @@ module _ (file : List ℕ) (fits : (S : Setting) (bs : List Booking) → Dec (Fi
 
   -- ---- Any command
 
-  pub keeps : (s : SessionState) (p : PlainSession) (c : Command) → Stands s p → Keeps s p c
+  pub keeps : (s : SessionState) (p : PlainSession) (c : Option Command) → Stands s p → Keeps s p c
   unfolding outcome_of day_after
-  keeps s p (Open rounds disk memory) w = open-keeps s p rounds disk memory w
-  keeps s p Bad w = bad-keeps s p w
-  keeps s unopened (Book q) w = before-keeps s (Book q) w (book-before q) refl refl
-  keeps s unopened (Drop name) w = before-keeps s (Drop name) w (drop-before name) refl refl
-  keeps s unopened Play w = before-keeps s Play w play-before refl refl
-  keeps s (on_day day p) (Book q) w = call-keeps s day p w (Book q) (C.booking q) refl refl refl
-  keeps s (on_day day p) (Drop name) w = call-keeps s day p w (Drop name) (C.dropping name) refl refl refl
-  keeps s (on_day day p) Play w = call-keeps s day p w Play (C.playing blank_report) refl refl refl
+  keeps s p (Some (Open rounds disk memory)) w = open-keeps s p rounds disk memory w
+  keeps s p None w = bad-keeps s p w
+  keeps s unopened (Some (Book q)) w = before-keeps s (Some (Book q)) w (book-before q) refl refl
+  keeps s unopened (Some (Drop name)) w = before-keeps s (Some (Drop name)) w (drop-before name) refl refl
+  keeps s unopened (Some Play) w = before-keeps s (Some Play) w play-before refl refl
+  keeps s (on_day day p) (Some (Book q)) w = call-keeps s day p w (Some (Book q)) (C.booking q) refl refl refl
+  keeps s (on_day day p) (Some (Drop name)) w = call-keeps s day p w (Some (Drop name)) (C.dropping name) refl refl refl
+  keeps s (on_day day p) (Some Play) w = call-keeps s day p w (Some Play) (C.playing blank_report) refl refl refl

@@ -1,37 +1,29 @@
 -- What a step and its parts are to leave.
-use Rattle.std.specs.Prelude.{◌≡◌, cond, List, [], ◌∷◌, ◌++◌, ℕ, leb, length, take, drop}
+use Rattle.std.specs.Prelude.{◌≡◌, cond, List, [], ◌∷◌, ◌++◌, ℕ, leb, length, take, drop, Option}
 use Rattle.model.specs.declared.Answer.{Answer}
-use Rattle.model.specs.declared.Booking.{Booking}
-use Rattle.model.specs.declared.Day.{Day}
+use Rattle.model.specs.declared.Desk.{Desk}
 use Rattle.model.specs.declared.Line.{Line}
-use Rattle.playing.specs.Lines.{padded}
-use Rattle.playing.specs.Contract.{lines_in}
+use Rattle.model.specs.declared.Sheet.{Sheet}
 use Rattle.commands.specs.declared.Command.{Command}
 use Rattle.text.specs.Text.{answer_text, report_text}
 use Rattle.text.specs.Digits.{output_bytes}
 use Rattle.console.specs.Session.{SessionState, outcome_of, state_after, lines_told, text_of}
-use Rattle.console.specs.declared.Session.{Session}
-use Rattle.console.specs.declared.Stepped.{Stepped}
-use Rattle.console.specs.declared.calls.Carried.{Carried}
+use Rattle.playing.specs.declared.Played.{Played}
 
--- a session with the sheet that is lent beside it
-abbrev pub with_sheet : Session → List ℕ → List ℕ → List ℕ → SessionState
-with_sheet s opens reserves helds =
-    record { day = s.day; rows = s.rows; opens = opens; reserves = reserves; helds = helds }
+-- a desk with the sheet that is lent beside it; its list has 64 places, whatever the desk says
+abbrev pub with_sheet : Desk → Sheet → SessionState
+with_sheet desk sheet =
+    record { day = desk.day; rows = desk.rows; opens = sheet.opens.now; reserves = sheet.reserves.now; helds = sheet.helds.now }
 
--- what a command leaves
-abbrev pub left_as : Day → List Booking → Answer → List Line → Carried
-left_as day rows answer lines = record { session = record { day = day; rows = rows }; answer = answer; lines = lines }
-
--- a command carried out: the session and the sheet, the answer, and the report's lines in an array that has no line after them
-pub record Carries (file : List ℕ) (s : SessionState) (c : Command) (r : Carried) (opens' reserves' helds' : List ℕ) : Type 0 where
-  pub state : with_sheet r.session opens' reserves' helds' ≡ state_after file s c
+-- a command carried out: the desk and the sheet, the answer, and the report's lines
+pub record Carries (file : List ℕ) (s : SessionState) (c : Option Command) (r : Played) (desk : Desk) (sheet : Sheet) : Type 0 where
+  pub state : with_sheet desk sheet ≡ state_after file s c
   pub answer : r.answer ≡ (outcome_of file s c).answer
-  pub lines : r.lines ≡ padded (lines_told (outcome_of file s c))
+  pub lines : r.lines.items ≡ lines_told (outcome_of file s c)
 
--- the text of an answer and of the lines in the array that it says
+-- the text of an answer and of its report's lines
 abbrev pub reply_text : ℕ → ℕ → Answer → List Line → List ℕ
-reply_text name round answer lines = answer_text name round answer ++ report_text (take (lines_in answer) lines)
+reply_text name round answer lines = answer_text name round answer ++ report_text lines
 
 -- everything after a step: the session with its sheet, the output buffer, and how many of its bytes are the answer's text
 pub record After : Type 0 where
@@ -39,9 +31,8 @@ pub record After : Type 0 where
   pub buffer : List ℕ
   pub count : ℕ
 
-abbrev pub after_of : Stepped → List ℕ → List ℕ → List ℕ → List ℕ → After
-after_of r opens reserves helds buffer =
-    record { state = with_sheet r.session opens reserves helds; buffer = buffer; count = r.length }
+abbrev pub after_of : Desk → Sheet → List ℕ → ℕ → After
+after_of desk sheet buffer count = record { state = with_sheet desk sheet; buffer = buffer; count = count }
 
 -- the text at the front of the buffer; every other place as it was
 abbrev pub in_front : List ℕ → List ℕ → List ℕ
@@ -49,14 +40,14 @@ in_front text buffer = text ++ drop (length text) buffer
 
 -- a step: the command carried out, and its text at the front of the buffer. With a buffer that has no room for the longest
 -- answer, 8,192 bytes, nothing is done.
-unfoldable pub step_of : List ℕ → SessionState → Command → List ℕ → After
+unfoldable pub step_of : List ℕ → SessionState → Option Command → List ℕ → After
 step_of file s c buffer =
     cond (leb output_bytes (length buffer))
     (record { state = state_after file s c; buffer = in_front (text_of file s c) buffer; count = length (text_of file s c) })
     (record { state = s; buffer = buffer; count = 0 })
 
 -- what is printed by writing the text's bytes of the buffer after each step
-abbrev pub printed : List ℕ → SessionState → List ℕ → List Command → List ℕ
+abbrev pub printed : List ℕ → SessionState → List ℕ → List (Option Command) → List ℕ
 printed file s buffer [] = []
 printed file s buffer (c ∷ cs) =
     let after = step_of file s c buffer in

@@ -5,11 +5,9 @@
 pub mod Session
 pub mod Contract
 pub mod PlainSession
--- ---- The claim of every session, and document 01's own
+-- ---- Document 01's own session
 
 pub mod Example
--- ---- Laws for the code
-
--- ---- Laws that the claim rests on
+-- ---- What the claim rests on
 
 pub mod PlainParts

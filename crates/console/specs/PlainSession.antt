@@ -1,5 +1,5 @@
 -- A session by the plain day: what the program prints, from the plain day (document 01, 'The plain day') and 'The program' alone.
-use Rattle.std.specs.Prelude.{false, List, [], ◌∷◌, ◌++◌, ℕ, zero, suc, leb}
+use Rattle.std.specs.Prelude.{false, List, [], ◌∷◌, ◌++◌, ℕ, zero, suc, leb, Option, Some, None}
 use Rattle.limits.specs.Bounds.{hall_rounds, hall_places}
 use Rattle.limits.specs.Refusals.{no_room, day_rounds, day_limits, command_form}
 use Rattle.laws.specs.Questions.{refusal}
@@ -16,9 +16,9 @@ use Rattle.model.specs.declared.Answer.TheVariants.{Refused, Opened}
 use Rattle.questions.specs.Given.{setting_at}
 use Rattle.opening.specs.Contract.{asked}
 use Rattle.commands.specs.declared.Command.{Command}
-use Rattle.commands.specs.declared.Command.TheVariants.{Open, Book, Drop, Play, Bad}
+use Rattle.commands.specs.declared.Command.TheVariants.{Open, Book, Drop, Play}
 use Rattle.text.specs.Text.{answer_text, report_text}
-use Rattle.console.specs.Session.{start_session, name_in}
+use Rattle.console.specs.Session.{start_desk, name_in}
 
 -- where a session stands: before the first accepted OPEN; or on the plain day of the last one, with its T, D and M
 pub data PlainSession : Type 0 where
@@ -54,7 +54,7 @@ plain_open p day (suc k) = refused_in p (suc k)
 module _ (file : List ℕ) (fits : (S : Setting) (bs : List Booking) → Dec (Fits S bs)) where
   -- "Before OPEN the day has T = 0": the file's questions, and then 14
   abbrev pub number_before : ℕ
-  number_before = refusal (file_question (setting_at file start_session.day) ∷ (false, day_rounds) ∷ [])
+  number_before = refusal (file_question (setting_at file start_desk.day) ∷ (false, day_rounds) ∷ [])
 
   -- a call: "its list 64 places"
   abbrev pub plain_asked : PlainSession → Arguments → PlainTold
@@ -64,24 +64,24 @@ module _ (file : List ℕ) (fits : (S : Setting) (bs : List Booking) → Dec (Fi
       let o = plain_call S hall_places (fits S) p c in
       record { answer = o.answer; lines = o.lines; after = on_day day o.after }
 
-  abbrev pub plain_command : PlainSession → Command → PlainTold
-  plain_command p (Open rounds disk memory) =
+  abbrev pub plain_command : PlainSession → Option Command → PlainTold
+  plain_command p (Some (Open rounds disk memory)) =
       plain_open p (asked rounds disk memory) (open_number (setting_at file (asked rounds disk memory)))
-  plain_command p (Book q) = plain_asked p (booking q)
-  plain_command p (Drop name) = plain_asked p (dropping name)
-  plain_command p Play = plain_asked p (playing hall_places)
-  plain_command p Bad = refused_in p command_form
+  plain_command p (Some (Book q)) = plain_asked p (booking q)
+  plain_command p (Some (Drop name)) = plain_asked p (dropping name)
+  plain_command p (Some Play) = plain_asked p (playing hall_places)
+  plain_command p None = refused_in p command_form
 
   -- its text
-  abbrev pub plain_text : PlainSession → Command → List ℕ
+  abbrev pub plain_text : PlainSession → Option Command → List ℕ
   plain_text p c = answer_text (name_in c) (round_of p) (plain_command p c).answer ++ report_text (plain_command p c).lines
 
   -- the text of a list of commands
-  abbrev pub plain_output : PlainSession → List Command → List ℕ
+  abbrev pub plain_output : PlainSession → List (Option Command) → List ℕ
   plain_output p [] = []
   plain_output p (c ∷ cs) = plain_text p c ++ plain_output (plain_command p c).after cs
 
   -- and where it leaves the session
-  abbrev pub plain_end : PlainSession → List Command → PlainSession
+  abbrev pub plain_end : PlainSession → List (Option Command) → PlainSession
   plain_end p [] = p
   plain_end p (c ∷ cs) = plain_end (plain_command p c).after cs

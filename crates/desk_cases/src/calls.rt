@@ -1,199 +1,80 @@
 // The calls of a script.
-use crate::desk::Desk;
+use crate::lent::Lent;
 use booking::book;
 use dropping::drop_booking;
-use limits::bounds::MAX_BOOKINGS;
-use model::{Answer, Line, Request};
+use model::{Answer, Request, Sheet};
 use opening::open;
 use playing::play;
-use script::operands::{u8_at, u16_at, u32_at, u64_at};
+use script::operands::Operation;
 
-// opcodes
-pub const OPEN: u64 = 32;
+// opcodes: numbers, as they stand in a script
+pub const OPEN: u8 = 32;
 
-pub const BOOK: u64 = 33;
+const BOOK: u8 = 33;
 
-pub const DROP: u64 = 34;
+const DROP: u8 = 34;
 
-pub const PLAY: u64 = 35;
+const PLAY: u8 = 35;
 
-pub const BOOK_NARROW: u64 = 36;
-
-// A call's answer, and the desk after it.
-#[derive(Clone, Copy)]
-pub struct Called {
-    pub answer: Answer,
-    pub desk: Desk,
-}
-
-// The request of the operation at a position, with all numbers but the name of 64 bits.
-fn wide_request(script: &[u8], at: usize) -> Request {
+// The request of an operation, with all numbers but the name of 64 bits.
+fn wide_request(operation: Operation<'_>) -> Request {
     Request {
-        name: u32_at(script, at, 1) as u32,
-        film: u64_at(script, at, 5),
-        prefetch: u64_at(script, at, 13),
-        reserve: u64_at(script, at, 21),
-        cabs: u64_at(script, at, 29),
-        first: u64_at(script, at, 37),
-        last: u64_at(script, at, 45),
+        name: operation.u32(1),
+        film: operation.u64(5),
+        prefetch: operation.u64(13),
+        reserve: operation.u64(21),
+        cabs: operation.u64(29),
+        first: operation.u64(37),
+        last: operation.u64(45),
     }
 }
 
-// The request of the operation at a position, with numbers as narrow as a record's.
-fn narrow_request(script: &[u8], at: usize) -> Request {
+// The request of an operation, with numbers as narrow as a record's.
+fn narrow_request(operation: Operation<'_>) -> Request {
     Request {
-        name: u32_at(script, at, 1) as u32,
-        film: u16_at(script, at, 5),
-        prefetch: u16_at(script, at, 7),
-        reserve: u32_at(script, at, 9),
-        cabs: u64_at(script, at, 13),
-        first: u32_at(script, at, 21),
-        last: u32_at(script, at, 25),
+        name: operation.u32(1),
+        film: u64::from(operation.u16(5)),
+        prefetch: u64::from(operation.u16(7)),
+        reserve: u64::from(operation.u32(9)),
+        cabs: operation.u64(13),
+        first: u64::from(operation.u32(21)),
+        last: u64::from(operation.u32(25)),
     }
 }
 
-fn request_at(script: &[u8], at: usize) -> Request {
-    if u8_at(script, at, 0) == BOOK {
-        return wide_request(script, at);
-    }
-    narrow_request(script, at)
+// Plays the round. The lines that it gives stand at the front of the report, over what stood there.
+fn call_play(file: &[u8], lent: &mut Lent) -> Answer {
+    let played = play(file, &mut lent.desk, lent.room);
+    lent.report[..played.lines.len()].copy_from_slice(&played.lines);
+    played.answer
 }
 
-fn call_open(
-    script: &[u8],
-    at: usize,
-    opens: &mut [u64],
-    reserves: &mut [u64],
-    helds: &mut [u64],
-    desk: Desk,
-) -> Called {
-    let rounds = u64_at(script, at, 1);
-    let disk = u64_at(script, at, 9);
-    let memory = u64_at(script, at, 17);
-    let opened = open(desk.day, rounds, disk, memory, opens, reserves, helds);
-    let answer = opened.answer;
-    let day = opened.day;
-    let mut next = desk;
-    next.day = day;
-    Called { answer, desk: next }
-}
-
-fn call_book(
-    file: &[u8],
-    q: Request,
-    opens: &mut [u64],
-    reserves: &mut [u64],
-    helds: &mut [u64],
-    desk: Desk,
-) -> Called {
-    let rows = desk.rows;
-    let booked = book(file, desk.day, rows, desk.places, q, opens, reserves, helds);
-    let answer = booked.answer;
-    let day = booked.day;
-    let after = booked.rows;
-    let mut next = desk;
-    next.day = day;
-    next.rows = after;
-    Called { answer, desk: next }
-}
-
-fn call_drop(
-    file: &[u8],
-    name: u32,
-    opens: &mut [u64],
-    reserves: &mut [u64],
-    helds: &mut [u64],
-    desk: Desk,
-) -> Called {
-    let rows = desk.rows;
-    let dropped = drop_booking(
-        file,
-        desk.day,
-        rows,
-        desk.places,
-        name,
-        opens,
-        reserves,
-        helds,
-    );
-    let answer = dropped.answer;
-    let day = dropped.day;
-    let after = dropped.rows;
-    let mut next = desk;
-    next.day = day;
-    next.rows = after;
-    Called { answer, desk: next }
-}
-
-// How many lines an answer says that a report has.
-fn written(answer: Answer) -> u64 {
-    match answer {
-        Answer::Played(open, _) => open,
-        Answer::Refused(_) => 0,
-        Answer::Opened => 0,
-        Answer::Booked(_) => 0,
-        Answer::Dropped => 0,
-    }
-}
-
-// A report after a call that wrote its first lines.
-fn overwritten(
-    report: [Line; MAX_BOOKINGS],
-    lines: [Line; MAX_BOOKINGS],
-    n: u64,
-) -> [Line; MAX_BOOKINGS] {
-    let mut next = report;
-    let mut i = 0;
-    while i < MAX_BOOKINGS && (i as u64) < n {
-        let line = lines[i];
-        next[i] = line;
-        i += 1;
-    }
-    next
-}
-
-fn call_play(file: &[u8], desk: Desk) -> Called {
-    let rows = desk.rows;
-    let played = play(file, desk.day, rows, desk.places, desk.room);
-    let answer = played.answer;
-    let day = played.day;
-    let lines = played.lines;
-    let report = desk.lines;
-    let after = overwritten(report, lines, written(answer));
-    let mut next = desk;
-    next.day = day;
-    next.lines = after;
-    Called { answer, desk: next }
-}
-
-// Carries out the call at a position.
+// Carries out the call of an operation.
 pub fn call(
-    script: &[u8],
-    at: usize,
+    operation: Operation<'_>,
     file: &[u8],
-    opens: &mut [u64],
-    reserves: &mut [u64],
-    helds: &mut [u64],
-    desk: Desk,
-) -> Called {
-    match u8_at(script, at, 0) {
-        OPEN => call_open(script, at, opens, reserves, helds, desk),
-        DROP => call_drop(
-            file,
-            u32_at(script, at, 1) as u32,
-            opens,
-            reserves,
-            helds,
-            desk,
+    sheet: &mut Sheet<'_>,
+    lent: &mut Lent,
+) -> Answer {
+    let desk = &mut lent.desk;
+    match operation.opcode() {
+        OPEN => open(
+            &mut desk.day,
+            sheet,
+            operation.u64(1),
+            operation.u64(9),
+            operation.u64(17),
         ),
-        PLAY => call_play(file, desk),
-        _ => call_book(file, request_at(script, at), opens, reserves, helds, desk),
+        BOOK => book(file, desk, sheet, wide_request(operation)),
+        DROP => drop_booking(file, desk, sheet, operation.u32(1)),
+        PLAY => call_play(file, lent),
+        _ => book(file, desk, sheet, narrow_request(operation)),
     }
 }
 
-// Bytes of the operands of the call at a position.
-pub fn operands(script: &[u8], at: usize) -> usize {
-    match u8_at(script, at, 0) {
+// Bytes of the operands of a call.
+pub fn operands(operation: Operation<'_>) -> usize {
+    match operation.opcode() {
         OPEN => 24,
         BOOK => 52,
         DROP => 4,

@@ -1,7 +1,4 @@
--- Dropping a booking: its contract, and the laws that its proofs cite.
+-- Dropping a booking: its contract, the desk without it, and what the sheet of the rest is worked out from.
 pub mod Contract
 pub mod Removal
-pub mod RemovalLaws
 pub mod Standing
-pub mod StandingLaws
-pub mod Laws

@@ -1,20 +1,15 @@
 -- What the sheet of the bookings that stand is worked out from.
-use Rattle.std.specs.Prelude.{◌≡◌, true, List, ℕ, ◌≤◌}
+use Rattle.std.specs.Prelude.{◌≡◌, true, List, ℕ, ◌≤◌, take}
 use Rattle.limits.specs.Bounds.{max_bookings, max_day}
-use Rattle.films.specs.Questions.{verdict}
-use Rattle.films.specs.Catalogue.{catalogue_of}
-use Rattle.films.specs.declared.types.Catalogue.{Catalogue}
 use Rattle.model.specs.Soundness.{sound_list}
-use Rattle.model.specs.declared.Booking.{Booking}
-use Rattle.model.specs.declared.Day.{Day}
+use Rattle.model.specs.declared.Desk.{Desk}
+use Rattle.model.specs.declared.Sheet.{Sheet}
 use Rattle.rounds.specs.Sheet.{Places}
 use Rattle.questions.specs.Given.{setting_at}
 
--- bs is a sound list of n bookings on an accepted file, and the sheet has T places
-pub record Stands (f : List ℕ) (c : Catalogue) (day : Day) (bs : List Booking) (n : ℕ) (opens reserves helds : List ℕ) : Type 0 where
-  pub catalogue : c ≡ catalogue_of f
-  pub accepted : verdict f ≡ 0
-  pub rounds : day.rounds ≤ max_day
-  pub few : n ≤ max_bookings
-  pub sound : sound_list (setting_at f day) bs ≡ true
-  pub places : Places day.rounds opens reserves helds
+-- the desk's bookings are a sound list by the file f, and the sheet has T places
+pub record Stands (f : List ℕ) (desk : Desk) (sheet : Sheet) : Type 0 where
+  pub rounds : desk.day.rounds ≤ max_day
+  pub few : desk.day.count ≤ max_bookings
+  pub sound : sound_list (setting_at f desk.day) (take desk.day.count desk.rows) ≡ true
+  pub places : Places desk.day.rounds sheet.opens.now sheet.reserves.now sheet.helds.now

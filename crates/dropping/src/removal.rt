@@ -1,46 +1,27 @@
-// A record taken out of the list.
-ghost use Rattle.std.specs.Prelude.{◌≡◌, ◌≤◌, ◌<◌};
+// A booking taken out of the desk's list.
+ghost use Rattle.std.specs.Prelude.{◌≡◌, ◌≤◌, IsTrue, if◌then◌else◌, take};
 ghost use Rattle.limits.specs.Bounds.{max_bookings};
-ghost use Rattle.dropping.specs.Removal.{Position, closed};
+ghost use Rattle.model.specs.Questions.{has_name};
+ghost use Rattle.model.specs.Calls.{without};
+ghost use Rattle.dropping.specs.Removal.{left};
 
-use limits::bounds::MAX_BOOKINGS;
-use model::Booking;
+use model::{Booking, Desk};
 
-// The place of the first of the first `count` records that bears the name; `count` where none does.
-pub fn position(rows: [Booking; MAX_BOOKINGS], count: usize, name: u32) -> usize
-    requires { count ≤ max_bookings }
-    ensures { Position name rows count result }
+// Takes the booking of this name out: the records after it close the gap, and the place freed is zeroed. Says whether there was
+// one; where there is none, the desk stays.
+pub fn remove(desk: &mut Desk, name: u32) -> bool
+    requires { desk.old.day.count ≤ max_bookings }
+    ensures found { result ≡ has_name name (take desk.old.day.count desk.old.rows) }
+    ensures leaves { desk.new ≡ (if result then left name desk.old else desk.old) }
+    ensures standing { IsTrue result → take desk.new.day.count desk.new.rows ≡ without name (take desk.old.day.count desk.old.rows) }
 {
-    let mut i = 0;
-    while i < count {
-        let b = rows[i];
-        if b.name == name {
-            return i;
-        }
-        i += 1;
-    }
-    i
-}
-
-// The records without the one at i: those after it, up to `count`, close the gap, and the place freed is zeroed.
-pub fn close_gap(rows: [Booking; MAX_BOOKINGS], count: usize, i: usize) -> [Booking; MAX_BOOKINGS]
-    requires { (i < count) × (count ≤ max_bookings) }
-    ensures { result ≡ closed i count rows }
-{
-    let mut out = rows;
-    let mut j = i;
-    while j + 1 < count {
-        let b = rows[j + 1];
-        out[j] = b;
-        j += 1;
-    }
-    out[j] = Booking {
-        name: 0,
-        film: 0,
-        start: 0,
-        prefetch: 0,
-        reserve: 0,
-        cabs: 0,
+    let count = desk.day.count as usize;
+    let standing = &desk.rows[..count];
+    let Some(i) = standing.iter().position(|row| row.name == name) else {
+        return false;
     };
-    out
+    desk.rows.copy_within(i + 1..count, i);
+    desk.rows[count - 1] = Booking::default();
+    desk.day.count -= 1;
+    true
 }

@@ -4,13 +4,11 @@
 
 mod bookings;
 mod schedules;
-mod words;
 
 use bookings::start;
 use loss::loss;
 use schedules::{held, largest, reserve, totals};
 use std::io;
-use words::{number, words};
 
 // the film file of film 1 alone, with sizes 8, 8, 8, 2, 6, 4
 const FILM_1: [u8; 34] = [
@@ -26,62 +24,57 @@ const ZEROS: [u8; 34] = [
 
 // Begins the line of a schedule.
 fn begin(rt: &impl Print, p: u64, b: u64) -> io::Result<()> {
-    number(rt, b"* p ", p)?;
-    number(rt, b", b ", b)?;
-    words(rt, b": ")
+    print!(rt; "* p {p}, b {b}: ")
 }
 
 // The lines on schedules.
 fn schedule_lines(rt: &impl Print, file: &[u8]) -> io::Result<()> {
     begin(rt, 1, 6)?;
     totals(rt, file, 1, 6)?;
-    words(rt, b"; ")?;
+    print!(rt; "; ")?;
     held(rt, file, 1, 6)?;
-    words(rt, b"\n")?;
+    println!(rt)?;
     begin(rt, 0, 7)?;
     totals(rt, file, 0, 7)?;
-    words(rt, b"\n")?;
+    println!(rt)?;
     begin(rt, 0, 8)?;
     held(rt, file, 0, 8)?;
-    words(rt, b"\n")?;
+    println!(rt)?;
     begin(rt, 1, 5)?;
     totals(rt, file, 1, 5)?;
-    words(rt, b"\n")?;
-    begin(rt, 2, 5)?;
-    largest(rt, file, 2, 5)?;
-    words(rt, b"\n")?;
-    begin(rt, 1, 7)?;
-    largest(rt, file, 1, 7)?;
-    words(rt, b"\n")
+    println!(rt)?;
+    for (p, b) in [(2, 5), (1, 7)] {
+        begin(rt, p, b)?;
+        largest(rt, file, p, b)?;
+        println!(rt)?;
+    }
+    Ok(())
 }
 
-// A line on a least reserve.
-fn reserve_line(rt: &impl Print, text: &[u8], file: &[u8], cap: u64) -> io::Result<()> {
-    words(rt, text)?;
-    reserve(rt, file, cap)
+// The lines on least reserves.
+fn reserve_lines(rt: &impl Print, text: &str, file: &[u8], caps: &[u64]) -> io::Result<()> {
+    for cap in caps {
+        print!(rt; "{text}, p 1: ")?;
+        reserve(rt, file, *cap)?;
+    }
+    Ok(())
 }
 
-// A line on the disk loss.
-fn loss_line(rt: &impl Print, films: u64) -> io::Result<()> {
-    number(rt, b"loss(", films)?;
-    number(rt, b") = ", loss(films))?;
-    words(rt, b"\n")
+// The lines on the disk loss.
+fn loss_lines(rt: &impl Print) -> io::Result<()> {
+    for films in [0, 1, 2, 3, 256] {
+        let bytes = loss(films);
+        println!(rt; "loss({films}) = {bytes}")?;
+    }
+    Ok(())
 }
 
 fn main(rt: HostRuntime) -> io::Result<()> {
     schedule_lines(&rt, &FILM_1)?;
-    reserve_line(&rt, b"* Least reserve, p 1: ", &FILM_1, 12)?;
-    reserve_line(&rt, b"* Least reserve, p 1: ", &FILM_1, 11)?;
-    reserve_line(&rt, b"* Least reserve, p 1: ", &FILM_1, 8)?;
-    reserve_line(&rt, b"* Least reserve, p 1: ", &FILM_1, 7)?;
+    reserve_lines(&rt, "* Least reserve", &FILM_1, &[12, 11, 8, 7])?;
     start(&rt, &FILM_1, 141433, 15, 2)?;
     start(&rt, &FILM_1, 141432, 18, 2)?;
     start(&rt, &FILM_1, 141433, 18, 1)?;
-    reserve_line(&rt, b"All sizes 0, p 1: ", &ZEROS, 12)?;
-    reserve_line(&rt, b"All sizes 0, p 1: ", &ZEROS, 0)?;
-    loss_line(&rt, 0)?;
-    loss_line(&rt, 1)?;
-    loss_line(&rt, 2)?;
-    loss_line(&rt, 3)?;
-    loss_line(&rt, 256)
+    reserve_lines(&rt, "All sizes 0", &ZEROS, &[12, 0])?;
+    loss_lines(&rt)
 }

@@ -1,48 +1,40 @@
 -- What an accepted file's bytes are, number by number: the questions all hold. Assumes nothing.
-use Rattle.std.specs.Prelude.{ℕ, zero, suc, ◌+◌, ◌*◌, ◌<◌, ◌≤◌, ◌≡◌, refl, List, [], ◌∷◌, ◌++◌, length, leb}
+use Rattle.std.specs.Prelude.{ℕ, zero, suc, ◌+◌, ◌*◌, ◌<◌, ◌≤◌, ◌≡◌, refl, Bool, true, false, cond, List, [], ◌∷◌, ◌++◌, length, leb}
 use Rattle.std.proofs.Common.{◌∙◌, ⊎_elim, arith, eq-or-lt_of_le, leb-true, eqb-true, le-leb, eq-eqb}
 use Rattle.laws.specs.Tests.{left, right}
-use Rattle.laws.specs.Questions.{Question, refusal, refusal-held}
+use Rattle.laws.specs.Questions.{Question, Numbered, refusal, refusal-append, both-held}
 use Rattle.limits.specs.Bounds.{max_films}
 use Rattle.limits.specs.Refusals.{film_order, round_count}
 use Rattle.films.specs.Questions.{films_in, count_at, sizes_in, sizes_at, head_questions, exceeds, few_rounds, entry_questions, size_questions, file_questions, verdict}
-use Rattle.films.specs.Accepted.{Accepted, Holds, Numbered, Passes, SizesHold}
-
-pub both : (qs rs : List Question) → Numbered qs → refusal (qs ++ rs) ≡ 0 → (refusal qs ≡ 0) × (refusal rs ≡ 0)
-both [] rs n e = (refl, e)
-both (q ∷ qs) rs n e =
-    let h = refusal-held q.0 q.1 (qs ++ rs) n.0 e in
-    let t = both qs rs n.1 h.1 in
-    (rw h.0 t.0, t.1)
+use Rattle.films.specs.Accepted.{Accepted, Holds, Passes, SizesHold}
 
 pub after : (qs rs : List Question) → Numbered qs → refusal qs ≡ 0 → refusal (qs ++ rs) ≡ refusal rs
-after [] rs n e = refl
-after (q ∷ qs) rs n e =
-    let h = refusal-held q.0 q.1 qs n.0 e in
-    rw h.0 (after qs rs n.1 h.1)
+after qs rs n e = refusal-append qs rs n ∙ rw e
+
+held : (b : Bool) (k n : ℕ) → (b ≡ false → 0 < k) → cond b n k ≡ 0 → (b ≡ true) × (n ≡ 0)
+held true k n p e = (refl, e)
+held false k n p e = absurd (omega (arith, p refl))
 
 pub holds : (qs : List Question) → Numbered qs → refusal qs ≡ 0 → Holds qs
 holds [] n e = tt
-holds (q ∷ qs) n e =
-    let h = refusal-held q.0 q.1 qs n.0 e in
-    (h.0, holds qs n.1 h.1)
+holds (q ∷ qs) n e = let h = held q.0 q.1 (refusal qs) n.0 e in (h.0, holds qs n.1 h.1)
 
 -- ---- the three parts of the file's questions
 
 pub head-numbered : (s : List ℕ) → Numbered (head_questions s)
 unfolding head_questions
-head-numbered s = (omega arith, (omega arith, (omega arith, tt)))
+head-numbered s = (λ _. omega arith, (λ _. omega arith, (λ _. omega arith, tt)))
 
 pub entries-numbered : (s : List ℕ) (i k : ℕ) → Numbered (entry_questions s i k)
 entries-numbered s i zero = tt
-entries-numbered s i (suc k) = (omega arith, (omega arith, entries-numbered s (suc i) k))
+entries-numbered s i (suc k) = (λ _. omega arith, (λ _. omega arith, entries-numbered s (suc i) k))
 
 pub entries-held : (s : List ℕ) (i k : ℕ) → refusal (entry_questions s i k) ≡ 0 → (j : ℕ) → i ≤ j → j < i + k → Passes s j
 entries-held s i zero e j p q = absurd (omega arith)
 entries-held s i (suc k) e j p q =
-    let h = refusal-held (exceeds s i) film_order ((few_rounds s i, round_count) ∷ entry_questions s (suc i) k) (omega arith) e in
-    let g = refusal-held (few_rounds s i) round_count (entry_questions s (suc i) k) (omega arith) h.1 in
-    ⊎_elim (λ z. rw (← z) (h.0, g.0)) (λ z. entries-held s (suc i) k g.1 j z (omega arith)) (eq-or-lt_of_le p)
+    let h = both-held ((exceeds s i, film_order) ∷ (few_rounds s i, round_count) ∷ []) (entry_questions s (suc i) k) (λ _. omega arith, (λ _. omega arith, tt)) e in
+    let g = holds ((exceeds s i, film_order) ∷ (few_rounds s i, round_count) ∷ []) (λ _. omega arith, (λ _. omega arith, tt)) h.0 in
+    ⊎_elim (λ z. rw (← z) (g.0, g.1.0)) (λ z. entries-held s (suc i) k h.1 j z (omega arith)) (eq-or-lt_of_le p)
 
 entries_none : (s : List ℕ) (i k : ℕ) → ((j : ℕ) → i ≤ j → j < i + k → Passes s j) → refusal (entry_questions s i k) ≡ 0
 entries_none s i zero f = refl
@@ -58,7 +50,7 @@ head-held s e =
 
 sizes-numbered : (s : List ℕ) → Numbered (size_questions s)
 unfolding size_questions
-sizes-numbered s = (omega arith, (omega arith, (omega arith, (omega arith, (omega arith, tt)))))
+sizes-numbered s = (λ _. omega arith, (λ _. omega arith, (λ _. omega arith, (λ _. omega arith, (λ _. omega arith, tt)))))
 
 sizes-held : (s : List ℕ) → refusal (size_questions s) ≡ 0 → SizesHold s
 unfolding size_questions
@@ -69,8 +61,8 @@ sizes-held s e =
 pub accepted : (s : List ℕ) → verdict s ≡ 0 → Accepted s
 unfolding verdict file_questions
 accepted s e =
-    let h = both (head_questions s) (entry_questions s 0 (films_in s) ++ size_questions s) (head-numbered s) e in
-    let g = both (entry_questions s 0 (films_in s)) (size_questions s) (entries-numbered s 0 (films_in s)) h.1 in
+    let h = both-held (head_questions s) (entry_questions s 0 (films_in s) ++ size_questions s) (head-numbered s) e in
+    let g = both-held (entry_questions s 0 (films_in s)) (size_questions s) (entries-numbered s 0 (films_in s)) h.1 in
     let c = head-held s h.0 in
     let z = sizes-held s g.1 in
     record {

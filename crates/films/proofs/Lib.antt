@@ -1,8 +1,5 @@
--- Laws of the proofs: the first "no" of each group of questions, turns of the loops, and the stages of the catalogue.
-pub mod Answers
+-- Laws of the proofs: the questions one by one, the loop over the entries, and the verdict by its three groups of questions.
 pub mod Laws
-pub mod Reading
-pub mod Stages
 pub mod Accepted
 pub mod CatalogueLaws
 pub mod Decoded
@@ -13,3 +10,4 @@ pub mod LookupLaws
 pub mod SizeLaws
 pub mod Span
 pub mod Theorems
+pub mod Verdict

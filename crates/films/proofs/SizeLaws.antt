@@ -1,7 +1,11 @@
 -- Sizes where they stand: how many, which one, and a run of them cut in two. Assumes nothing.
-use Rattle.std.specs.Prelude.{ℕ, zero, suc, ◌+◌, ◌*◌, ◌<◌, ◌≡◌, refl, List, ◌∷◌, ◌++◌, length, get_or}
+use Rattle.std.specs.Prelude.{ℕ, zero, suc, ◌+◌, ◌*◌, ◌<◌, ◌≡◌, refl, Bool, ◌&&◌, List, ◌∷◌, ◌++◌, length, get_or, leb}
+use Rattle.std.specs.List.{list_all, range_with_len}
 use Rattle.std.proofs.Common.{ap, ◌∙◌, arith}
+use Rattle.laws.specs.Tests.{all}
+use Rattle.limits.specs.Bounds.{max_size}
 use Rattle.films.specs.Sizes.{size, sizes}
+use Rattle.films.specs.Questions.{small_sizes}
 
 pub length-sizes : (s : List ℕ) (at n : ℕ) → length (sizes s at n) ≡ n
 length-sizes s at zero = refl
@@ -21,3 +25,13 @@ sizes-cut s at (suc n) m =
     let e : suc n + m ≡ suc (n + m) = omega arith in
     let f : at + 4 * suc n ≡ (at + 4) + 4 * n = omega arith in
     rw (e, f) (ap (λ l. size s at ∷ l) (sizes-cut s (at + 4) n m))
+
+-- the sizes whose bytes start at an offset, tested by their number
+pub sizes_test : (s : List ℕ) (at k n : ℕ) (f : ℕ → Bool) → list_all (λ i. f (size s (at + 4 * i))) (range_with_len k n) ≡ all f (sizes s (at + 4 * k) n)
+sizes_test s at k zero f = refl
+sizes_test s at k (suc n) f =
+    let e : at + 4 * (k + 1) ≡ at + 4 * k + 4 = omega arith in
+    ap (λ b. f (size s (at + 4 * k)) && b) (rw e at (sizes_test s at (k + 1) n f))
+
+pub small_test : (s : List ℕ) (at n : ℕ) → list_all (λ i. leb (size s (at + 4 * i)) max_size) (range_with_len 0 n) ≡ small_sizes s at n
+small_test s at n = let e : at + 4 * 0 ≡ at = omega arith in rw e at (sizes_test s at 0 n (λ x. leb x max_size))

@@ -1,36 +1,15 @@
-// The catalogue of a file, and its verdict.
+// A file's verdict.
 ghost use Rattle.std.specs.Prelude.{◌≡◌};
+ghost use Rattle.limits.specs.Refusals.{number};
 ghost use Rattle.films.specs.Questions as questions;
-ghost use Rattle.films.specs.Catalogue.{catalogue_of};
 
-use crate::entries::{entries, head, refused};
-use crate::sizes::tail;
-use crate::types::Catalogue;
-use crate::words::half_at;
+use crate::file::FilmFile;
+use limits::refusals::Refusal;
 
-// The films of a file, made in one pass over its bytes, with its verdict; of a refused file its number alone.
-pub fn catalogue(file: &[u8]) -> Catalogue
-    ensures { result ≡ catalogue_of file.now }
+// The refusal of the first question that the file says no to.
+pub fn verdict(bytes: &[u8]) -> Result<(), Refusal>
+    ensures { number result ≡ questions.verdict bytes.now }
 {
-    let first = head(file);
-    if first != 0 {
-        return refused(first);
-    }
-    let found = entries(file, half_at(file, 0) as usize);
-    let listed = found.catalogue;
-    if listed.verdict != 0 {
-        return listed;
-    }
-    let last = tail(file, listed.count, found.total);
-    if last != 0 {
-        return refused(last);
-    }
-    listed
-}
-
-// 0, or the number of the first question that the file says no to.
-pub fn verdict(file: &[u8]) -> u32
-    ensures { result ≡ questions.verdict file.now }
-{
-    catalogue(file).verdict
+    FilmFile::read(bytes)?;
+    Ok(())
 }

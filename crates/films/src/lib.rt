@@ -1,9 +1,10 @@
-// The film file: its verdict, the catalogue of its films, lookup, the reader and the summary.
+// The film file: its verdict, the catalogue of its films, and lookup.
 #![tactic(auto)]
 
 pub mod catalogue;
 mod entries;
+pub mod file;
+pub mod film;
 pub mod lookup;
 mod sizes;
-pub mod types;
 pub mod words;

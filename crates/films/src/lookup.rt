@@ -1,31 +1,24 @@
 // Films by number, in a catalogue.
-ghost use Rattle.std.specs.Prelude.{◌≡◌, min};
+ghost use Rattle.std.specs.Prelude.{◌≡◌};
 ghost use Rattle.films.specs.Lookup.{lookup_in};
 
-use crate::types::{Catalogue, Lookup};
-use limits::bounds::MAX_FILMS;
+use crate::file::Entry;
 
-fn least(a: usize, b: usize) -> usize
-    ensures { result ≡ min a b }
-{
-    if a < b { a } else { b }
+// Where a film's sizes stand in the file: the offset of the first, and how many.
+#[derive(Clone, Copy, PartialEq, Eq, Debug, Default)]
+pub struct Place {
+    pub at: usize,
+    pub rounds: usize,
 }
 
-// Where the sizes of a film stand, for any catalogue and any number.
-pub fn lookup(c: Catalogue, film: u64) -> Lookup
-    ensures { result ≡ lookup_in c film }
+// Where the sizes of a film stand, for any list of entries and any number.
+#[tactic(auto, unfolding(crate::specs::Lookup::lookup_in))]
+pub fn lookup(films: &[Entry], film: u64) -> Option<Place>
+    ensures { result ≡ lookup_in films.now film }
 {
-    let numbers = c.numbers;
-    let rounds = c.rounds;
-    let offsets = c.offsets;
-    let count = least(c.count, MAX_FILMS);
-    let mut i = 0;
-    while i < count {
-        let number = numbers[i] as u64;
-        if number == film {
-            return Lookup::Found(offsets[i] as usize, rounds[i] as usize);
-        }
-        i += 1;
-    }
-    Lookup::Missing
+    let entry = films.iter().find(|entry| u64::from(entry.number) == film)?;
+    Some(Place {
+        at: entry.at as usize,
+        rounds: usize::from(entry.rounds),
+    })
 }

@@ -1,81 +1,55 @@
 // The file's second section: the count of sizes and the sizes.
-ghost use Rattle.std.specs.Prelude.{◌≡◌, ◌+◌, ◌*◌, ◌≤◌, length};
+ghost use Rattle.std.specs.Prelude.{◌≡◌, ◌+◌, ◌*◌, ◌≤◌, length, sum_by};
 ghost use Rattle.laws.specs.Questions.{refusal};
-ghost use Rattle.limits.specs.Bounds.{max_films, max_rounds};
-ghost use Rattle.films.specs.Questions.{films_in, rounds_before, small_sizes, size_questions};
+ghost use Rattle.limits.specs.Bounds.{max_films};
+ghost use Rattle.limits.specs.Refusals.{number};
+ghost use Rattle.films.specs.Questions.{small_sizes, size_questions};
+ghost use Rattle.films.specs.Catalogue.{listed};
 
+use crate::file::Entry;
 use crate::words::size_at;
-use limits::refusals::{SIZE_BOUND, SIZE_COUNT, TRAILING, TRUNCATED};
+use limits::bounds::MAX_SIZE;
+use limits::refusals::Refusal;
 
-// Is a size within the bound? It exceeds it exactly if its fourth byte is not 0.
-fn one_small(file: &[u8], at: usize) -> bool
-    requires { at + 4 ≤ length file.now }
-    ensures { result ≡ small_sizes file.now at 1 }
-{
-    file[at + 3] == 0
-}
-
-// Are four sizes?
-fn four_small(file: &[u8], at: usize) -> bool
-    requires { at + 16 ≤ length file.now }
-    ensures { result ≡ small_sizes file.now at 4 }
-{
-    let high = file[at + 3] | file[at + 7] | file[at + 11] | file[at + 15];
-    high == 0
-}
-
-// Are n sizes?
-fn few_small(file: &[u8], from: usize, n: usize) -> bool
-    requires { from + 4 * n ≤ length file.now }
-    ensures { result ≡ small_sizes file.now from n }
-{
-    let mut i = 0;
-    while i < n {
-        if !one_small(file, from + 4 * i) {
-            return false;
-        }
-        i += 1;
-    }
-    true
-}
-
-// Are n sizes, of which there may be many? Four a turn, which halves the time.
+// Are n sizes within the bound?
 fn small(file: &[u8], from: usize, n: usize) -> bool
     requires { from + 4 * n ≤ length file.now }
     ensures { result ≡ small_sizes file.now from n }
 {
-    let mut i = 0;
-    while i + 4 <= n {
-        if !four_small(file, from + 4 * i) {
-            return false;
-        }
-        i += 4;
-    }
-    few_small(file, from + 4 * i, n - i)
+    (0..n).all(|i| size_at(file, from + 4 * i) <= MAX_SIZE)
 }
 
-// The questions after the entries, which number `count` and have `total` rounds.
-pub fn tail(file: &[u8], count: usize, total: usize) -> u32
-    requires count_value { (count ≡ films_in file.now) × (count ≤ max_films) }
-    requires total_value { (total ≡ rounds_before file.now count) × (total ≤ max_rounds * count) }
-    ensures { result ≡ refusal (size_questions file.now) }
+// The rounds of the films.
+fn rounds_of(films: &[Entry]) -> usize
+    requires { length films.now ≤ max_films }
+    ensures { result ≡ sum_by (λ film. film.rounds) films.now }
 {
-    let from = 6 + 4 * count;
+    films.iter().map(|film| usize::from(film.rounds)).sum()
+}
+
+// The questions after the entries of these films.
+pub fn tail(file: &[u8], films: &[Entry]) -> Result<(), Refusal>
+    requires few { length films.now ≤ max_films }
+    requires entries { films.now ≡ listed file.now }
+    ensures { number result ≡ refusal (size_questions file.now) }
+{
+    let from = 6 + 4 * films.len();
     if file.len() < from {
-        return TRUNCATED;
+        return Err(Refusal::Truncated);
     }
-    if size_at(file, 2 + 4 * count) != total as u64 {
-        return SIZE_COUNT;
+    let total = rounds_of(films);
+    if size_at(file, from - 4) != total as u64 {
+        return Err(Refusal::SizeCount);
     }
     let end = from + 4 * total;
     if file.len() < end {
-        return TRUNCATED;
+        return Err(Refusal::Truncated);
     }
     if !small(file, from, total) {
-        return SIZE_BOUND;
+        return Err(Refusal::SizeBound);
     }
     if end < file.len() {
-        return TRAILING;
+        return Err(Refusal::Trailing);
     }
-    0
+    Ok(())
 }

@@ -1,6 +1,6 @@
 -- A call over a lent list is: load its rows, the call by value, store the rows and tell the answer in numbers. Assumes nothing.
-use Rattle.std.specs.Prelude.{◌≡◌, refl, List, [], ◌∷◌, ℕ, length}
-use Rattle.std.proofs.Common.{sym, ◌∙◌, ap₂, subst, arith}
+use Rattle.std.specs.Prelude.{◌≡◌, refl, List, [], ◌∷◌, ℕ, ◌≤◌, length}
+use Rattle.std.proofs.Common.{sym, ◌∙◌, ap, ap₂, subst, arith}
 use Rattle.limits.specs.Bounds.{max_bookings}
 use Rattle.model.specs.Day.{Setting, State}
 use Rattle.model.specs.Fit.{FitsAt}
@@ -8,36 +8,38 @@ use Rattle.model.specs.FirstFit.{AnswersFirst}
 use Rattle.model.proofs.FirstFit.{book-first}
 use Rattle.model.specs.Answers.{number_of, values_of}
 use Rattle.model.specs.Calls.{Outcome, standing, book_call, drop_call, play_call}
-use Rattle.model.specs.Code.{state_of, day_of}
+use Rattle.model.specs.Code.{state_of, state_in, day_of}
 use Rattle.model.specs.declared.Answer.{Answer}
-use Rattle.model.specs.declared.Answer.TheVariants.{Refused, Opened, Booked, Dropped, Played}
+use Rattle.model.specs.declared.Answer.TheVariants as A
 use Rattle.model.specs.declared.Booking.{Booking}
 use Rattle.model.specs.declared.Line.{Line}
 use Rattle.model.specs.declared.Day.{Day}
+use Rattle.model.specs.declared.Desk.{Desk}
+use Rattle.model.specs.declared.Sheet.{Sheet}
 use Rattle.model.specs.declared.Request.{Request}
 use Rattle.questions.specs.Given.{setting_at}
 use Rattle.booking.specs.Contract as booking
 use Rattle.dropping.specs.Contract.{Drops}
-use Rattle.dropping.specs.declared.DropOutcome.{DropOutcome}
-use Rattle.interface.specs.Records.{loaded, stored}
+use Rattle.playing.specs.Contract.{lines_in, Plays}
+use Rattle.interface.specs.Records.{desk_of, stored}
+use Rattle.interface.specs.Same.{Same}
 use Rattle.interface.proofs.Same.{same-book, same_drop, same-play}
 use Rattle.interface.specs.Calls.{Gives, Leaves}
-use Rattle.interface.proofs.Calls.{leaves, same-day}
+use Rattle.interface.proofs.Calls.{same-day}
 use Rattle.interface.specs.Reply.{reply_of}
 use Rattle.interface.proofs.ReplyLaws.{reply-number}
-use Rattle.interface.specs.Rounds.{Rounds}
+use Rattle.interface.proofs.Rounds.{lines-fit, written-stored}
 use Rattle.interface.specs.DeskCalls.{RepliesFirst, Books, BooksOver, DropsOver, PlaysOver}
 use Rattle.interface.specs.declared.reply.Reply.{Reply}
-use Rattle.interface.specs.declared.play_call.Round.{Round}
 
 -- ---- the first start, in numbers
 
 reply-start : (a : Answer) (day : Day) (s : ℕ) → values_of a ≡ s ∷ [] → (reply_of a day).start ≡ s
-reply-start (Refused k) day s e = let z : ◌≡◌ {A = ℕ} 0 1 = cc in absurd (omega arith)
-reply-start Opened day s e = let z : ◌≡◌ {A = ℕ} 0 1 = cc in absurd (omega arith)
-reply-start (Booked t) day s e = cc
-reply-start Dropped day s e = let z : ◌≡◌ {A = ℕ} 0 1 = cc in absurd (omega arith)
-reply-start (Played n c) day s e = let z : ◌≡◌ {A = ℕ} 0 1 = cc in absurd (omega arith)
+reply-start (A.Refused k) day s e = let z : ◌≡◌ {A = ℕ} 0 1 = cc in absurd (omega arith)
+reply-start A.Opened day s e = let z : ◌≡◌ {A = ℕ} 0 1 = cc in absurd (omega arith)
+reply-start (A.Booked t) day s e = cc
+reply-start A.Dropped day s e = let z : ◌≡◌ {A = ℕ} 0 1 = cc in absurd (omega arith)
+reply-start (A.Played n c) day s e = let z : ◌≡◌ {A = ℕ} 0 1 = cc in absurd (omega arith)
 
 replies-first : (P : ℕ → Type 0) (first last : ℕ) (a : Answer) (day : Day) → AnswersFirst P first last a → RepliesFirst P first last (reply_of a day)
 replies-first P first last a day v =
@@ -60,49 +62,53 @@ books S d q z list' o' r' h' l =
 
 -- ---- the three calls
 
-module _ (file : List ℕ) (day : Day) (list : List Booking) (rows : List Booking) (made : rows ≡ loaded list) where
+module _ (file : List ℕ) (day : Day) (list : List Booking) (desk : Desk) (made : desk ≡ desk_of day list) where
   abbrev S : Setting
   S = setting_at file day
 
-  -- with the answer told and the rows stored
-  told : (out : Outcome) (a : Answer) (after : Day) (rows' list' : List Booking) (z : Reply) (o' r' h' : List ℕ) → z ≡ reply_of a after → list' ≡ stored max_bookings rows' list
-      → Leaves S out (reply_of a after) (stored max_bookings rows' list) o' r' h' → Leaves S out z list' o' r' h'
-  told out a after rows' list' z o' r' h' ez el l =
-      subst (λ (t : Reply). Leaves S out t list' o' r' h') (sym ez)
-      (subst (λ (t : List Booking). Leaves S out (reply_of a after) t o' r' h') (sym el) l)
+  -- a booking or a drop, with the answer told, the rows stored and the sheet given back
+  module _ (sheet : Sheet) (a : Answer) (desk' : Desk) (sheet' : Sheet) (z : Reply) (list' : List Booking) (o' r' h' : List ℕ)
+      (ez : z ≡ reply_of a desk'.day) (el : list' ≡ stored (length desk'.rows) desk'.rows list) (en : length desk'.rows ≡ max_bookings)
+      (eo : o' ≡ sheet'.opens.now) (er : r' ≡ sheet'.reserves.now) (eh : h' ≡ sheet'.helds.now) where
+    told : (x y : Outcome) → Same list x y → Gives S x a desk'.day desk'.rows sheet'.opens.now sheet'.reserves.now sheet'.helds.now → Leaves S y z list' o' r' h'
+    told x y s g =
+        record {
+          reply = ez ∙ ap₂ reply_of (g.answer ∙ s.answer) (g.after ∙ same-day S list x y s);
+          records = el ∙ ap₂ (λ (n : ℕ) (l : List Booking). stored n l list) en g.records ∙ s.records;
+          opens = eo ∙ g.opens ∙ s.opens;
+          reserves = er ∙ g.reserves ∙ s.reserves;
+          helds = eh ∙ g.helds ∙ s.helds;
+        }
 
-  pub book-over : (q : Request) (o r h : List ℕ) (a : Answer) (after : Day) (rows' list' : List Booking) (z : Reply) (o' r' h' : List ℕ)
-      → booking.Leaves S (book_call S (state_of day rows (length list) o r h) q) a after rows' o' r' h'
-      → z ≡ reply_of a after → list' ≡ stored max_bookings rows' list → BooksOver file day list q o r h z list' o' r' h'
-  book-over q o r h a after rows' list' z o' r' h' given ez el =
-      let d : State = state_of day list (length list) o r h in
-      let x = book_call S (state_of day (loaded list) (length list) o r h) q in
-      let g = subst (λ (l : List Booking). booking.Leaves S (book_call S (state_of day l (length list) o r h) q) a after rows' o' r' h') made given in
-      let gives : Gives S x a after rows' o' r' h' =
-      record { answer = g.answer; after = g.day; records = g.rows; opens = g.opens; reserves = g.reserves; helds = g.helds } in
-      books S d q z list' o' r' h'
-      (told (book_call S d q) a after rows' list' z o' r' h' ez el (leaves S list x (book_call S d q) (same-book S d list q) a after rows' o' r' h' gives))
+    abbrev lent : State
+    lent = state_of day list (length list) sheet.opens.now sheet.reserves.now sheet.helds.now
 
-  pub drop-over : (name : ℕ) (o r h : List ℕ) (out : DropOutcome) (list' : List Booking) (z : Reply) (o' r' h' : List ℕ)
-      → Drops S (state_of day rows (length list) o r h) name out o' r' h'
-      → z ≡ reply_of out.answer out.day → list' ≡ stored max_bookings out.rows list → DropsOver file day list name o r h z list' o' r' h'
-  drop-over name o r h out list' z o' r' h' given ez el =
-      let d : State = state_of day list (length list) o r h in
-      let x = drop_call S (state_of day (loaded list) (length list) o r h) name in
-      let g = subst (λ (l : List Booking). Drops S (state_of day l (length list) o r h) name out o' r' h') made given in
-      let gives : Gives S x out.answer out.day out.rows o' r' h' =
-      record { answer = g.answer; after = g.day; records = g.rows; opens = g.opens; reserves = g.reserves; helds = g.helds } in
-      told (drop_call S d name) out.answer out.day out.rows list' z o' r' h' ez el
-      (leaves S list x (drop_call S d name) (same_drop S d list name) out.answer out.day out.rows o' r' h' gives)
+    pub book-over : (q : Request) → booking.Leaves (setting_at file desk.day) (book_call (setting_at file desk.day) (state_in desk sheet) q) a desk' sheet'
+        → BooksOver file day list q sheet.opens.now sheet.reserves.now sheet.helds.now z list' o' r' h'
+    book-over q given =
+        let g = subst (λ (d : Desk). booking.Leaves (setting_at file d.day) (book_call (setting_at file d.day) (state_in d sheet) q) a desk' sheet') made given in
+        books S lent q z list' o' r' h'
+        (told (book_call S (state_in (desk_of day list) sheet) q) (book_call S lent q) (same-book S lent list q)
+        (record { answer = g.answer; after = g.day; records = g.rows; opens = g.opens; reserves = g.reserves; helds = g.helds }))
 
-  pub play-over : (report : List Line) (out : Round) (report' : List Line) (z : Reply) → Rounds file day rows (length list) (length report) out
-      → z ≡ reply_of out.answer out.day → report' ≡ stored out.count out.lines report → PlaysOver file day list report z report'
-  play-over report out report' z given ez el o r h =
-      let d : State = state_of day list (length list) o r h in
-      let x = play_call S (state_of day (loaded list) (length list) o r h) report in
-      let g = subst (λ (l : List Booking). Rounds file day l (length list) (length report) out) made given o r h report refl in
-      let same = same-play S d list report in
+    pub drop-over : (name : ℕ) → Drops (setting_at file desk.day) (state_in desk sheet) name a desk' sheet'
+        → DropsOver file day list name sheet.opens.now sheet.reserves.now sheet.helds.now z list' o' r' h'
+    drop-over name given =
+        let g = subst (λ (d : Desk). Drops (setting_at file d.day) (state_in d sheet) name a desk' sheet') made given in
+        told (drop_call S (state_in (desk_of day list) sheet) name) (drop_call S lent name) (same_drop S lent list name)
+        (record { answer = g.answer; after = g.day; records = g.rows; opens = g.opens; reserves = g.reserves; helds = g.helds })
+
+  pub play-over : (report : List Line) (a : Answer) (lines : List Line) (after : Desk) (report' : List Line) (z : Reply)
+      → Plays file desk (length report) a lines after → length lines ≤ max_bookings → z ≡ reply_of a after.day → report' ≡ stored (length lines) lines report
+      → PlaysOver file day list report z report'
+  play-over report a lines after report' z given few ez el o r h =
+      let rows : State = state_of day (desk_of day list).rows (length list) o r h in
+      let whole : State = state_of day list (length list) o r h in
+      let g = subst (λ (d : Desk). Plays file d (length report) a lines after) made given in
+      let same = same-play S whole list report in
+      let fit : length lines ≤ length report = omega (arith, g.count, ap lines_in (g.answer o r h report refl), lines-fit S rows report) in
       record {
-        reply = ez ∙ ap₂ reply_of (sym g.answer ∙ same.answer) (sym g.after ∙ same-day S list x (play_call S d report) same);
-        lines = el ∙ sym g.report' ∙ same.report;
+        reply = ez ∙ ap₂ reply_of (sym (g.answer o r h report refl) ∙ same.answer)
+            (sym (g.day o r h report refl) ∙ same-day S list (play_call S rows report) (play_call S whole report) same);
+        lines = el ∙ sym (g.report o r h report refl ∙ written-stored lines report few fit) ∙ same.report;
       }

@@ -1,7 +1,6 @@
 pub mod AsMadeLaws
 pub mod Calls
 pub mod DeskLaws
-pub mod PlanCalls
 pub mod RecordLaws
 pub mod ReplayLaws
 pub mod ReplyLaws

@@ -1,5 +1,5 @@
 -- Loading and storing: what is taken of a lent list, and what comes back into it. Assumes nothing.
-use Rattle.std.specs.Prelude.{◌≡◌, refl, ℕ, zero, suc, ◌-◌, ◌≤◌, ◌<◌, min, length, take, drop, set, replicate}
+use Rattle.std.specs.Prelude.{◌≡◌, refl, ℕ, zero, suc, ◌-◌, ◌≤◌, ◌<◌, length, take, drop, set, replicate}
 use Rattle.std.proofs.Common.{sym, ◌∙◌, ap, not-suc-le-zero, le_of_suc-le-suc, arith, length-append, length-take, take-append-drop, length-take-le, take-take}
 use mathlib.Core.List.{List, [], ◌∷◌, ◌++◌, tail-eq_of_cons-eq, cons-ne-nil}
 use Rattle.std.proofs.lemmas.List.{length-replicate, set_split, take-append-le}
@@ -8,18 +8,6 @@ use Rattle.limits.specs.Bounds.{max_bookings}
 use Rattle.model.specs.Calls.{no_booking}
 use Rattle.model.specs.declared.Booking.{Booking}
 use Rattle.interface.specs.Records.{loaded, fitting, stored}
-
--- no more than a list's length is taken of it
-pub take_min : {A : Type 0} (n : ℕ) (l : List A) → take (min n (length l)) l ≡ take n l
-take_min zero l =
-    let e : min zero (length l) ≡ zero = omega arith in
-    ap (λ (k : ℕ). take k l) e
-take_min (suc n) [] =
-    let e : min (suc n) zero ≡ zero = omega arith in
-    ap (λ (k : ℕ). take k []) e
-take_min {A} (suc n) (x ∷ l) =
-    let e : min (suc n) (length (x ∷ l)) ≡ suc (min n (length l)) = omega arith in
-    ap (λ (k : ℕ). take k (x ∷ l)) e ∙ ap (λ (r : List A). x ∷ r) (take_min n l)
 
 -- there are 256 rows
 pub length-loaded : (list : List Booking) → length (loaded list) ≡ max_bookings

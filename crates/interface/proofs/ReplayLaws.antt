@@ -1,7 +1,8 @@
 -- A replay over a lent list of records is the replay over its first 256 rows, with these put back: no more places are ever taken than
 -- 256, nor than the list has. Assumes nothing.
-use Rattle.std.specs.Prelude.{◌≡◌, refl, Bool, true, false, cond, List, [], ◌∷◌, ◌++◌, ℕ, zero, suc, ◌-◌, ◌≤◌, length, take, drop, replicate, eqb}
-use Rattle.std.proofs.Common.{sym, ◌∙◌, ap, subst, append_assoc, arith, length-append}
+use Rattle.std.specs.Prelude as std
+use Rattle.std.specs.Prelude.{◌≡◌, refl, Bool, true, false, cond, Option, List, [], ◌∷◌, ◌++◌, ℕ, zero, suc, ◌-◌, ◌≤◌, length, take, drop, replicate, eqb}
+use Rattle.std.proofs.Common.{sym, ◌∙◌, ap, ap₂, subst, append_assoc, arith, length-append}
 use Rattle.std.proofs.lemmas.List.{length-replicate}
 use Rattle.laws.specs.Questions.{refusal}
 use Rattle.limits.specs.Bounds.{max_bookings}
@@ -14,15 +15,17 @@ use Rattle.model.specs.PlainDay.{PlainDay, at_first, Arguments, booking, droppin
 use Rattle.model.specs.Expected.{other_places}
 use Rattle.model.specs.declared.Booking.{Booking}
 use Rattle.model.specs.declared.Day.{Day}
+use Rattle.model.specs.declared.Desk.{Desk}
+use Rattle.model.specs.declared.Sheet.{Sheet}
 use Rattle.opening.specs.Contract as opening
 use Rattle.questions.specs.Given.{setting_at}
 use Rattle.replay.specs.Journal.{entries}
 use Rattle.replay.specs.PlainRun.{calls_of, entries_done}
 use Rattle.replay.specs.Contract as replay
-use Rattle.replay.specs.Contract.{Result, lent_to, result_of, result_by}
+use Rattle.replay.specs.Contract.{Result, lent_to, result_of, result_by, refusal_in, entries_in, words_in}
 use Rattle.replay.specs.declared.Replayed as run
 use Rattle.replay.specs.declared.journal.Entry.{Entry}
-use Rattle.interface.specs.Records.{loaded, stored}
+use Rattle.interface.specs.Records.{loaded, desk_of, stored}
 use Rattle.interface.proofs.RecordLaws.{stored-front, stored_same}
 use Rattle.interface.specs.ReplayCall.{told, ReplaysOver}
 use Rattle.interface.specs.declared.replay_call.Replayed.{Replayed}
@@ -112,7 +115,7 @@ module _ (S : Setting) (list : List Booking) (o r h : List ℕ) (fits : (bs : Li
   same_by : (n : ℕ) → Same list (result_by S (over (loaded list)) fits n journal room) (result_by S (over list) fits n journal room)
   same_by (suc k) = record { refusal' = refl; entries' = refl; words' = refl; day' = refl; records' = stored_same list; opens' = refl; reserves' = refl; helds' = refl }
   same_by zero =
-      let es : List Entry = take (entries_done S (length list) fits at_first room (entries journal)) (entries journal) in
+      let es : List (Option Entry) = take (entries_done S (length list) fits at_first room (entries journal)) (entries journal) in
       let cs = calls_of es in
       let few = taken-few S (length list) fits at_first cs (record { most = omega arith; within = omega arith }) in
       record {
@@ -130,26 +133,35 @@ module _ (S : Setting) (list : List Booking) (o r h : List ℕ) (fits : (bs : Li
   unfolding open_questions sheet_long
   same-result = same_by (refusal (open_questions S (over list)))
 
-pub replay-over : (file : List ℕ) (rounds disk memory : ℕ) (list rows : List Booking) → rows ≡ loaded list → (journal log o r h : List ℕ) (out : run.Replayed) (z : Replayed) (list' : List Booking) (log' o' r' h' : List ℕ)
-    → ((fits : (bs : List Booking) → Dec (Fits (setting_at file (opening.asked rounds disk memory)) bs))
-    → replay.Replays (result_of (setting_at file (opening.asked rounds disk memory)) (lent_to rows (length list) o r h) fits journal (length log)) log out log' o' r' h')
-    → z ≡ told out.refusal out.entries out.words out.day → list' ≡ stored max_bookings out.rows list
-    → ReplaysOver file rounds disk memory list journal log o r h z list' log' o' r' h'
-replay-over file rounds disk memory list rows made journal log o r h out z list' log' o' r' h' given ez el fits =
-    let S = setting_at file (opening.asked rounds disk memory) in
-    let w = result_of S (lent_to list (length list) o r h) fits journal (length log) in
-    let g = subst (λ (l : List Booking). replay.Replays (result_of S (lent_to l (length list) o r h) fits journal (length log)) log out log' o' r' h') made (given fits) in
-    let s = same-result S list o r h fits journal (length log) in
-    record {
-      answer =
-          ez
-          ∙ ap (λ (k : ℕ). told k out.entries out.words out.day) (g.refusal ∙ s.refusal')
-          ∙ ap (λ (n : ℕ). told w.refusal n out.words out.day) (g.entries ∙ s.entries')
-          ∙ ap (λ (n : ℕ). told w.refusal w.entries n out.day) (g.words ∙ ap length s.words')
-          ∙ ap (λ (d : Day). told w.refusal w.entries (length w.words) d) (g.day ∙ s.day');
-      records = el ∙ ap (λ (l : List Booking). stored max_bookings l list) g.rows ∙ s.records';
-      logged = g.log ∙ ap (λ (ws : List ℕ). ws ++ drop (length ws) log) s.words';
-      opens = g.opens ∙ s.opens';
-      reserves = g.reserves ∙ s.reserves';
-      helds = g.helds ∙ s.helds';
-    }
+module _ (file : List ℕ) (rounds disk memory : ℕ) (list : List Booking) (journal log : List ℕ) (sheet : Sheet) where
+  abbrev S : Setting
+  S = setting_at file (opening.asked rounds disk memory)
+
+  abbrev lent : List Booking → State
+  lent records = lent_to records (length list) sheet.opens.now sheet.reserves.now sheet.helds.now
+
+  -- with the answer told, the rows stored and the sheet given back
+  pub replay-over : (before : Day) (desk : Desk) → desk ≡ desk_of before list → (out : std.Result run.Replayed ℕ) (desk' : Desk) (sheet' : Sheet) (z : Replayed)
+      (list' : List Booking) (log' o' r' h' : List ℕ)
+      → ((fits : (bs : List Booking) → Dec (Fits S bs))
+      → replay.Replays (result_of S (lent_to desk.rows desk.places sheet.opens.now sheet.reserves.now sheet.helds.now) fits journal (length log)) log out desk' sheet' log')
+      → z ≡ told (refusal_in out) (entries_in out) (words_in out) desk'.day → list' ≡ stored (length desk'.rows) desk'.rows list → length desk'.rows ≡ max_bookings
+      → o' ≡ sheet'.opens.now → r' ≡ sheet'.reserves.now → h' ≡ sheet'.helds.now
+      → ReplaysOver file rounds disk memory list journal log sheet.opens.now sheet.reserves.now sheet.helds.now z list' log' o' r' h'
+  replay-over before desk made out desk' sheet' z list' log' o' r' h' given ez el en eo er eh fits =
+      let w = result_of S (lent list) fits journal (length log) in
+      let g = subst (λ (d : Desk). replay.Replays (result_of S (lent_to d.rows d.places sheet.opens.now sheet.reserves.now sheet.helds.now) fits journal (length log)) log out desk' sheet' log') made (given fits) in
+      let s = same-result S list sheet.opens.now sheet.reserves.now sheet.helds.now fits journal (length log) in
+      record {
+        answer =
+            ez
+            ∙ ap (λ (k : ℕ). told k (entries_in out) (words_in out) desk'.day) (g.refusal ∙ s.refusal')
+            ∙ ap (λ (n : ℕ). told w.refusal n (words_in out) desk'.day) (g.entries ∙ s.entries')
+            ∙ ap (λ (n : ℕ). told w.refusal w.entries n desk'.day) (g.words ∙ ap length s.words')
+            ∙ ap (λ (d : Day). told w.refusal w.entries (length w.words) d) (g.day ∙ s.day');
+        records = el ∙ ap₂ (λ (n : ℕ) (l : List Booking). stored n l list) en g.rows ∙ s.records';
+        logged = g.log ∙ ap (λ (ws : List ℕ). ws ++ drop (length ws) log) s.words';
+        opens = eo ∙ g.opens ∙ s.opens';
+        reserves = er ∙ g.reserves ∙ s.reserves';
+        helds = eh ∙ g.helds ∙ s.helds';
+      }

@@ -18,7 +18,7 @@ pub record Leaves (S : Setting) (o : Outcome) (r : Reply) (list : List Booking) 
   pub reserves : reserved ≡ o.state.reserves
   pub helds : held ≡ o.state.helds
 
--- what the call by value gives and leaves, over the rows: x is its definition
+-- what the call on the desk of its rows gives and leaves: x is its definition
 pub record Gives (S : Setting) (x : Outcome) (a : Answer) (day : Day) (rows : List Booking) (opened reserved held : List ℕ) : Type 0 where
   pub answer : a ≡ x.answer
   pub after : day ≡ day_of S x.state

@@ -6,7 +6,6 @@ pub mod FilmCalls
 pub mod PlanCalls
 pub mod Same
 pub mod Calls
-pub mod Rounds
 pub mod DeskCalls
 pub mod AsMade
 pub mod Unaltered

@@ -4,10 +4,16 @@ use Rattle.std.specs.Prelude.{List, ◌++◌, ℕ, ◌-◌, min, length, take, d
 use Rattle.limits.specs.Bounds.{max_bookings}
 use Rattle.model.specs.Calls.{no_booking}
 use Rattle.model.specs.declared.Booking.{Booking}
+use Rattle.model.specs.declared.Day.{Day}
+use Rattle.model.specs.declared.Desk.{Desk}
 
 -- the first records of a lent list, at most 256, and blank ones up to 256
 abbrev pub loaded : List Booking → List Booking
 loaded list = take max_bookings list ++ replicate (max_bookings - length list) no_booking
+
+-- the desk that a call over a lent list works on
+abbrev pub desk_of : Day → List Booking → Desk
+desk_of day list = record { day = day; rows = loaded list; places = length list }
 
 -- how many of `count` rows a lent list takes: at most 256, and at most as many as it has places
 abbrev pub fitting : ℕ → ℕ → ℕ

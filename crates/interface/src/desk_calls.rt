@@ -1,8 +1,8 @@
 // Opening a day, with its answer as plain numbers.
 ghost use Rattle.interface.specs.DeskCalls.{OpensOver};
 
-use crate::reply::{Reply, reply_of};
-use model::Day;
+use crate::reply::Reply;
+use model::{Day, Sheet};
 use opening::open;
 
 // Opens a day: refusals 14, 15, 11, which leave the day before. No record and no film file is looked at.
@@ -17,8 +17,12 @@ pub fn open_day(
 ) -> Reply
     ensures { OpensOver day rounds disk memory opens.old reserves.old helds.old result opens.new reserves.new helds.new }
 {
-    let done = open(day, rounds, disk, memory, opens, reserves, helds);
-    let answer = done.answer;
-    let next = done.day;
-    reply_of(answer, next)
+    let mut next = day;
+    let mut sheet = Sheet {
+        opens,
+        reserves,
+        helds,
+    };
+    let answer = open(&mut next, &mut sheet, rounds, disk, memory);
+    Reply::new(answer, next)
 }

@@ -4,35 +4,33 @@ ghost use Rattle.films.specs.Layout.{sizes_of};
 ghost use Rattle.films.specs.Decode.{films_of};
 ghost use Rattle.retrieval.specs.Schedule.{sends};
 ghost use Rattle.retrieval.specs.LeastReserve.{Least};
-ghost use Rattle.planning.specs.Answers.{scheduled, scheduled_number, schedule_out, reserved};
+ghost use Rattle.limits.specs.Numbered.{numbered, answer_number};
+ghost use Rattle.planning.specs.Answers.{scheduled, schedule_out, reserved};
 ghost use Rattle.interface.specs.PlanCalls.{reserve_of};
 
+use limits::refusals::Refusal;
 use planning::reserves::least_reserve;
-use planning::schedules::{Scheduled, schedule};
+use planning::schedules::schedule;
 
 // A least reserve: the refusal, or 0; its bytes.
 #[repr(C)]
-#[derive(Clone, Copy)]
+#[derive(Clone, Copy, PartialEq, Eq, Debug)]
 pub struct Reserve {
     pub refusal: u32,
     pub bytes: u64,
 }
 
-fn number_of(answer: Scheduled) -> u32
-    ensures { result ≡ scheduled_number answer }
-{
-    match answer {
-        Scheduled::Refused(refusal) => refusal,
-        Scheduled::Written(_) => 0,
-    }
-}
+impl From<Result<u64, Refusal>> for Reserve {
+    ghost from_gives = { λ answer reserve. reserve ≡ reserve_of (numbered answer) };
 
-fn reserve_of(answer: planning::reserves::Reserve) -> Reserve
-    ensures { result ≡ reserve_of answer }
-{
-    match answer {
-        planning::reserves::Reserve::Refused(refusal) => Reserve { refusal, bytes: 0 },
-        planning::reserves::Reserve::Bytes(bytes) => Reserve { refusal: 0, bytes },
+    fn from(answer: Result<u64, Refusal>) -> Reserve {
+        match answer {
+            Ok(bytes) => Reserve { refusal: 0, bytes },
+            Err(refusal) => Reserve {
+                refusal: refusal.number(),
+                bytes: 0,
+            },
+        }
     }
 }
 
@@ -44,10 +42,12 @@ pub fn write_schedule(
     reserve: u64,
     totals: &mut [u64],
 ) -> u32
-    ensures answer { result ≡ scheduled_number (scheduled file.now film prefetch reserve (length totals.old)) }
+    ensures answer { result ≡ answer_number (scheduled file.now film prefetch reserve (length totals.old)) }
     ensures written { totals.new ≡ schedule_out file.now film prefetch reserve totals.old }
 {
-    number_of(schedule(file, film, prefetch, reserve, totals))
+    schedule(file, film, prefetch, reserve, totals)
+        .err()
+        .map_or(0, Refusal::number)
 }
 
 // The least reserve of a film for a memory cap: the smallest with which some schedule holds at most the cap.
@@ -55,5 +55,5 @@ pub fn reserve_for(file: &[u8], film: u64, prefetch: u64, cap: u64) -> Reserve
     ensures answer { result ≡ reserve_of (reserved file.now film prefetch cap) }
     ensures least { result.refusal ≡ 0 → Least (sends prefetch (sizes_of (films_of file.now) film)) cap result.bytes }
 {
-    reserve_of(least_reserve(file, film, prefetch, cap))
+    Reserve::from(least_reserve(file, film, prefetch, cap))
 }

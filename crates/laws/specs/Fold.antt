@@ -1,13 +1,8 @@
 -- A fold over a list by index: what the rest of the list still does to the accumulator. A loop's invariant is
 -- `fold f a₀ (take n l) ≡ fold f a (slice i n l)`, so a turn needs no algebra of f. Assumes nothing.
-use Rattle.std.specs.Prelude.{ℕ, ◌+◌, ◌<◌, ◌≤◌, ◌≡◌, List, [], ◌∷◌, length, get_or}
+use Rattle.std.specs.Prelude.{ℕ, ◌+◌, ◌<◌, ◌≤◌, ◌≡◌, List, length, get_or, fold}
 use Rattle.std.proofs.Common.{add-one}
 use Rattle.std.proofs.Math.Seq.{slice, slice-cons, slice_empty}
-
--- a, then f of that and the first element, then f of that and the second, ..
-abbrev pub fold : {A B : Type 0} → (A → B → A) → A → List B → A
-fold f a [] = a
-fold f a (b ∷ l) = fold f (f a b) l
 
 -- one turn
 pub fold_next : {A B : Type 0} (f : A → B → A) (a : A) (l : List B) (i n : ℕ) (d : B) → i < n → n ≤ length l

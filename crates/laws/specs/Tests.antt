@@ -1,5 +1,6 @@
 -- Tests joined by `&&`, tests of every number below a bound, and tests of every element of a list. Assumes nothing.
 use Rattle.std.specs.Prelude.{◌≡◌, refl, Bool, true, false, ◌&&◌, List, [], ◌∷◌, ◌++◌, ℕ, zero, suc, ◌<◌, length, get_or}
+use Rattle.std.specs.List.{list_all}
 use Rattle.std.proofs.Common.{sym, ⊎_elim, true≢false, arith, not-suc-le-zero, le_of_suc-le-suc, eq-or-lt_of_le}
 
 pub left : (a b : Bool) → a && b ≡ true → a ≡ true
@@ -30,8 +31,7 @@ below_all (suc n) f g = join (g n (omega arith)) (below_all n f (λ t h. g t (om
 
 -- the test passes at every element
 abbrev pub all : {A : Type 0} → (A → Bool) → List A → Bool
-all f [] = true
-all f (a ∷ l) = f a && all f l
+all f l = list_all f l
 
 pub all-at : {A : Type 0} (f : A → Bool) (l : List A) (d : A) → all f l ≡ true → (i : ℕ) → i < length l → f (get_or l i d) ≡ true
 all-at f [] d e i h = absurd (not-suc-le-zero h)

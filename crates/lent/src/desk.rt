@@ -1,17 +1,29 @@
-// The calls of the desk over a lent list of records: each loads the first 256 records, calls the call by value, and stores them. A
+// The calls of the desk over a lent list of records: each makes a desk of the first 256 records, makes its call, and stores them. A
 // refusal stores what was loaded, so that every record stays as it was.
+ghost use Rattle.std.specs.Prelude.{◌≡◌};
+ghost use Rattle.interface.specs.Records.{desk_of};
 ghost use Rattle.interface.specs.DeskCalls.{BooksOver, DropsOver, PlaysOver};
 ghost use Rattle.interface.specs.ReplayCall.{ReplaysOver};
 
-use crate::records::{load, store, write};
+use crate::records::{load, store};
 use booking::book;
 use dropping::drop_booking;
-use interface::play_call::play_round;
-use interface::replay_call::{Replayed, replayed_of};
-use interface::reply::{Reply, reply_of};
-use limits::bounds::MAX_BOOKINGS;
-use model::{Booking, Day, Line, Request};
+use interface::replay_call::Replayed;
+use interface::reply::Reply;
+use model::{Booking, Day, Desk, Line, Request, Sheet};
+use playing::play;
 use replay::replay;
+
+// The desk of a lent list.
+fn desk_of(day: Day, records: &[Booking]) -> Desk
+    ensures { result ≡ desk_of day records.now }
+{
+    Desk {
+        day,
+        rows: load(records),
+        places: records.len() as u64,
+    }
+}
 
 // Books: refusals 1 to 7, 14, 15, 11, 16, 18, 8, 9, 10, 20, 12, 21, 17, 22. A refusal alters nothing lent, but that 22 leaves the
 // sheet of the bookings as they stand.
@@ -26,14 +38,15 @@ pub fn playback_book(
 ) -> Reply
     ensures { BooksOver file.now day records.old request opens.old reserves.old helds.old result records.new opens.new reserves.new helds.new }
 {
-    let places = records.len() as u64;
-    let rows = load(records);
-    let done = book(file, day, rows, places, request, opens, reserves, helds);
-    let after = done.rows;
-    store(records, after, MAX_BOOKINGS);
-    let answer = done.answer;
-    let next = done.day;
-    reply_of(answer, next)
+    let mut desk = desk_of(day, records);
+    let mut sheet = Sheet {
+        opens,
+        reserves,
+        helds,
+    };
+    let answer = book(file, &mut desk, &mut sheet, request);
+    store(records, &desk.rows);
+    Reply::new(answer, desk.day)
 }
 
 // Drops the booking of a name: refusals 1 to 7, 14, 15, 11, 16, 19, which alter nothing lent.
@@ -48,14 +61,15 @@ pub fn playback_drop(
 ) -> Reply
     ensures { DropsOver file.now day records.old name opens.old reserves.old helds.old result records.new opens.new reserves.new helds.new }
 {
-    let places = records.len() as u64;
-    let rows = load(records);
-    let done = drop_booking(file, day, rows, places, name, opens, reserves, helds);
-    let after = done.rows;
-    store(records, after, MAX_BOOKINGS);
-    let answer = done.answer;
-    let next = done.day;
-    reply_of(answer, next)
+    let mut desk = desk_of(day, records);
+    let mut sheet = Sheet {
+        opens,
+        reserves,
+        helds,
+    };
+    let answer = drop_booking(file, &mut desk, &mut sheet, name);
+    store(records, &desk.rows);
+    Reply::new(answer, desk.day)
 }
 
 // Plays the day's current round and writes its report: refusals 1 to 7, 14, 15, 16, 23, 11, which alter nothing lent. No sheet
@@ -63,15 +77,10 @@ pub fn playback_drop(
 pub fn playback_play(file: &[u8], day: Day, records: &[Booking], report: &mut [Line]) -> Reply
     ensures { PlaysOver file.now day records.now report.old result report.new }
 {
-    let places = records.len() as u64;
-    let room = report.len() as u64;
-    let rows = load(records);
-    let done = play_round(file, day, rows, places, room);
-    let lines = done.lines;
-    write(report, lines, done.count);
-    let answer = done.answer;
-    let next = done.day;
-    reply_of(answer, next)
+    let mut desk = desk_of(day, records);
+    let played = play(file, &mut desk, report.len() as u64);
+    store(report, &played.lines);
+    Reply::new(played.answer, desk.day)
 }
 
 // Opens a day and carries the journal's entries out in order, as far as the log has room. An opening that is refused, with 14, 15 or
@@ -90,13 +99,15 @@ pub fn playback_replay(
 ) -> Replayed
     ensures { ReplaysOver file.now rounds disk memory records.old journal.now log.old opens.old reserves.old helds.old result records.new log.new opens.new reserves.new helds.new }
 {
-    let places = records.len() as u64;
-    let rows = load(records);
-    let done = replay(
-        file, rounds, disk, memory, rows, places, journal, log, opens, reserves, helds,
+    let mut desk = desk_of(Day::default(), records);
+    let mut sheet = Sheet {
+        opens,
+        reserves,
+        helds,
+    };
+    let answer = replay(
+        file, &mut desk, &mut sheet, rounds, disk, memory, journal, log,
     );
-    let after = done.rows;
-    store(records, after, MAX_BOOKINGS);
-    let next = done.day;
-    replayed_of(done.refusal, done.entries, done.words, next)
+    store(records, &desk.rows);
+    Replayed::new(answer, desk.day)
 }

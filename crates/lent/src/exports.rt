@@ -7,7 +7,8 @@ ghost use Rattle.retrieval.specs.Schedule.{sends};
 ghost use Rattle.retrieval.specs.LeastReserve.{Least};
 ghost use Rattle.reader.specs.Rounds.{round_size_of};
 ghost use Rattle.reader.specs.Summary.{summary_of};
-ghost use Rattle.planning.specs.Answers.{scheduled, scheduled_number, schedule_out, reserved};
+ghost use Rattle.limits.specs.Numbered.{answer_number};
+ghost use Rattle.planning.specs.Answers.{scheduled, schedule_out, reserved};
 ghost use Rattle.interface.specs.FilmCalls.{film_of, entry_of, figures_of, size_of};
 ghost use Rattle.interface.specs.PlanCalls.{reserve_of};
 ghost use Rattle.interface.specs.DeskCalls.{OpensOver};
@@ -17,13 +18,14 @@ use interface::desk_calls::open_day;
 use interface::film_calls::{Figures, Film, Size, film_at, size_at, summary_of};
 use interface::plan_calls::{Reserve, reserve_for, write_schedule};
 use interface::reply::Reply;
+use limits::refusals::Refusal;
 use model::Day;
 
 // 0, or the number of the first question, 1 to 7, that the file says no to.
 pub fn playback_verdict(file: &[u8]) -> u32
     ensures { result ≡ questions.verdict file.now }
 {
-    verdict(file)
+    verdict(file).err().map_or(0, Refusal::number)
 }
 
 // The entry that the film reader gives at a position, from 0: refusals 1 to 7.
@@ -55,7 +57,7 @@ pub fn playback_schedule(
     reserve: u64,
     totals: &mut [u64],
 ) -> u32
-    ensures answer { result ≡ scheduled_number (scheduled file.now film prefetch reserve (length totals.old)) }
+    ensures answer { result ≡ answer_number (scheduled file.now film prefetch reserve (length totals.old)) }
     ensures written { totals.new ≡ schedule_out file.now film prefetch reserve totals.old }
 {
     write_schedule(file, film, prefetch, reserve, totals)

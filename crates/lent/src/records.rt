@@ -1,45 +1,23 @@
-// Lent lists of records: bookings, and the lines of a report.
-ghost use Rattle.std.specs.Prelude.{◌≡◌};
+// Lent lists, and the rows by value that a call works on.
+ghost use Rattle.std.specs.Prelude.{◌≡◌, length};
 ghost use Rattle.interface.specs.Records.{loaded, stored};
 
-use interface::rows::{blank, min};
 use limits::bounds::MAX_BOOKINGS;
-use model::{Booking, Line};
+use model::Booking;
+
+// The first places of a lent list become the rows, as far as it has them, at most 256; the others stay.
+pub fn store<T: Copy>(list: &mut [T], rows: &[T])
+    ensures { list.new ≡ stored (length rows.now) rows.now list.old }
+{
+    let count = rows.len().min(MAX_BOOKINGS).min(list.len());
+    list[..count].copy_from_slice(&rows[..count]);
+}
 
 // The first records of a lent list, at most 256, and blank ones up to 256.
-pub fn load(list: &[Booking]) -> [Booking; 256]
+pub fn load(list: &[Booking]) -> [Booking; MAX_BOOKINGS]
     ensures { result ≡ loaded list.now }
 {
-    let n = min(MAX_BOOKINGS, list.len());
-    let mut rows = blank();
-    let mut i = 0;
-    while i < n {
-        rows[i] = list[i];
-        i += 1;
-    }
+    let mut rows = [Booking::default(); MAX_BOOKINGS];
+    store(&mut rows, list);
     rows
-}
-
-// The first `count` places of a lent list, as far as it has them, become those of the rows; the others stay.
-pub fn store(list: &mut [Booking], rows: [Booking; 256], count: usize)
-    ensures { list.new ≡ stored count rows list.old }
-{
-    let n = min(min(count, MAX_BOOKINGS), list.len());
-    let mut i = 0;
-    while i < n {
-        list[i] = rows[i];
-        i += 1;
-    }
-}
-
-// The same of a report.
-pub fn write(report: &mut [Line], lines: [Line; 256], count: usize)
-    ensures { report.new ≡ stored count lines report.old }
-{
-    let n = min(min(count, MAX_BOOKINGS), report.len());
-    let mut i = 0;
-    while i < n {
-        report[i] = lines[i];
-        i += 1;
-    }
 }

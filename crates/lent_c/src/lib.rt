@@ -9,7 +9,8 @@ ghost use Rattle.retrieval.specs.Schedule.{sends};
 ghost use Rattle.retrieval.specs.LeastReserve.{Least};
 ghost use Rattle.reader.specs.Rounds.{round_size_of};
 ghost use Rattle.reader.specs.Summary.{summary_of};
-ghost use Rattle.planning.specs.Answers.{scheduled, scheduled_number, schedule_out, reserved};
+ghost use Rattle.limits.specs.Numbered.{answer_number};
+ghost use Rattle.planning.specs.Answers.{scheduled, schedule_out, reserved};
 ghost use Rattle.interface.specs.FilmCalls.{film_of, entry_of, figures_of, size_of};
 ghost use Rattle.interface.specs.PlanCalls.{reserve_of};
 ghost use Rattle.interface.specs.ReplayCall.{ReplaysOver};
@@ -62,7 +63,7 @@ pub extern "C" fn playback_schedule(
     reserve: u64,
     totals: &mut [u64],
 ) -> u32
-    ensures answer { result ≡ scheduled_number (scheduled file.now film prefetch reserve (length totals.old)) }
+    ensures answer { result ≡ answer_number (scheduled file.now film prefetch reserve (length totals.old)) }
     ensures written { totals.new ≡ schedule_out file.now film prefetch reserve totals.old }
 {
     lent::exports::playback_schedule(file, film, prefetch, reserve, totals)

@@ -1,6 +1,8 @@
 -- Refusals, each with the question that it says no to (document 01, 'Questions at the counter' and 'The program').
 -- src/refusals.rt has the same numbers.
-use Rattle.std.specs.Prelude.{ℕ}
+use Rattle.std.specs.Prelude.{ℕ, Result, Ok, Err}
+use Rattle.limits.specs.declared.refusals.Refusal.{Refusal}
+use Rattle.limits.specs.declared.refusals.Refusal.TheVariants.{Truncated, FilmCount, FilmOrder, RoundCount, SizeCount, SizeBound, Trailing, NoFilm, Prefetch, Reserve, NoRoom, NoSchedule, Cap, DayRounds, DayLimits, Unsound, ListFull, NameTaken, NoName, NoCab, Window, NoStart, DayOver, Command, FileSize}
 
 -- Are the bytes of this part of the film file there?
 abbrev pub truncated : ℕ
@@ -101,3 +103,36 @@ command_form = 24
 -- Is the program's film file at most 65,536 bytes?
 abbrev pub file_size : ℕ
 file_size = 25
+
+-- the number of a refusal
+abbrev pub number_of : Refusal → ℕ
+number_of Truncated = truncated
+number_of FilmCount = film_count
+number_of FilmOrder = film_order
+number_of RoundCount = round_count
+number_of SizeCount = size_count
+number_of SizeBound = size_bound
+number_of Trailing = trailing
+number_of NoFilm = no_film
+number_of Prefetch = prefetch_bound
+number_of Reserve = reserve_bound
+number_of NoRoom = no_room
+number_of NoSchedule = no_schedule
+number_of Cap = cap_bound
+number_of DayRounds = day_rounds
+number_of DayLimits = day_limits
+number_of Unsound = unsound
+number_of ListFull = list_full
+number_of NameTaken = name_taken
+number_of NoName = no_name
+number_of NoCab = no_cab
+number_of Window = window_bound
+number_of NoStart = no_start
+number_of DayOver = day_over
+number_of Command = command_form
+number_of FileSize = file_size
+
+-- the number of an answer: 0, or the refusal's
+abbrev pub number : {A : Type 0} → Result A Refusal → ℕ
+number (Ok _) = 0
+number (Err refusal) = number_of refusal

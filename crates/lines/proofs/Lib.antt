@@ -1,3 +1,2 @@
-pub mod FeedingLaws
 pub mod Session
 pub mod Splits

@@ -1,5 +1,5 @@
 -- What question 16 asks of each booking by itself, but for its schedule.
-use Rattle.std.specs.Prelude.{Bool, not, ◌&&◌, List, ℕ, ◌≤◌, ◌<◌, get_or, leb, eqb}
+use Rattle.std.specs.Prelude.{Bool, not, ◌&&◌, List, ℕ, ◌≤◌, ◌<◌, length, get_or, leb, eqb}
 use Rattle.limits.specs.Bounds.{max_prefetch, max_reserve, max_day}
 use Rattle.films.specs.Sizes.{Stored}
 use Rattle.load.specs.Stream.{no_stream, end_of}
@@ -31,6 +31,6 @@ pub record Playable (f : List ℕ) (x : Stream) : Type 0 where
 abbrev pub Within : ℕ → Stream → Type 0
 Within T x = end_of x ≤ T
 
--- of each of the first n
-abbrev pub EachOf : (Stream → Type 0) → ℕ → List Stream → Type 0
-EachOf P n xs = (i : ℕ) → i < n → P (get_or xs i no_stream)
+-- of each stream
+abbrev pub EachOf : (Stream → Type 0) → List Stream → Type 0
+EachOf P xs = (i : ℕ) → i < length xs → P (get_or xs i no_stream)

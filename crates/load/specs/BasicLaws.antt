@@ -1,7 +1,7 @@
 -- What the tests of each stream show. Assumes nothing.
-use Rattle.std.specs.Prelude.{◌≡◌, true, not, List, map, ℕ, ◌≤◌, ◌<◌, length, get_or, take, leb, eqb}
-use Rattle.std.proofs.Common.{sym, ap, ◌∙◌, arith, length-take, get_or-take, leb-true}
-use Rattle.std.proofs.lemmas.List.{length-map}
+use Rattle.std.specs.Prelude.{◌≡◌, true, not, List, map, ℕ, ◌≤◌, get_or, leb, eqb, Option, Some, None}
+use Rattle.std.proofs.Common.{arith, leb-true}
+use Rattle.std.proofs.lemmas.List.{length-map, get_or-map}
 use Rattle.limits.specs.Bounds.{max_prefetch, max_reserve, max_day}
 use Rattle.laws.specs.Tests.{left, right, all, all-at}
 use Rattle.films.specs.Sizes.{Stored}
@@ -9,11 +9,9 @@ use Rattle.films.specs.Questions.{verdict}
 use Rattle.films.specs.Catalogue.{catalogue_of}
 use Rattle.films.specs.Lookup.{lookup_in, Says}
 use Rattle.films.proofs.LookupLaws.{lookup-says}
-use Rattle.films.specs.declared.types.Lookup.{Lookup}
-use Rattle.films.specs.declared.types.Lookup.TheVariants.{Found, Missing}
+use Rattle.films.specs.declared.lookup.Place.{Place}
 use Rattle.model.specs.Calls.{no_booking}
 use Rattle.model.specs.declared.Booking.{Booking}
-use Rattle.load.specs.Lists.{map_at}
 use Rattle.load.specs.Stream.{no_stream, end_of}
 use Rattle.load.specs.Streams.{placed, stream_of}
 use Rattle.load.specs.Basic.{ends_by, basic_of, Bounded, Playable, Within, EachOf}
@@ -46,31 +44,24 @@ pub stream-stored : (s : List ℕ) (b : Booking) → verdict s ≡ 0 → 1 ≤ (
 unfolding stream_of
 stream-stored s b e h = go (lookup_in (catalogue_of s) b.film) (lookup-says s e b.film) h
   where
-    go : (l : Lookup) → Says s b.film l → 1 ≤ (placed b l).rounds → Stored s (placed b l).at (placed b l).rounds
-    go (Found at n) f k = f.stored
-    go Missing f k = absurd (omega arith)
+    go : (l : Option Place) → Says s b.film l → 1 ≤ (placed b l).rounds → Stored s (placed b l).at (placed b l).rounds
+    go (Some place) f k = f.stored
+    go None f k = absurd (omega arith)
 
--- ---- of each of the first n
+-- ---- of each stream
 
-each-basic : (T : ℕ) (xs : List Stream) (n : ℕ) → n ≤ length xs → all (basic_of T) (take n xs) ≡ true → (i : ℕ) → i < n
-    → basic_of T (get_or xs i no_stream) ≡ true
-each-basic T xs n h e i k =
-    ap (basic_of T) (sym (get_or-take n xs i no_stream k))
-    ∙ all-at (basic_of T) (take n xs) no_stream e i (omega (arith, length-take n xs))
+pub each-bounded : (T : ℕ) (xs : List Stream) → T ≤ max_day → all (basic_of T) xs ≡ true → EachOf Bounded xs
+each-bounded T xs h e i u = basic-bounded T (get_or xs i no_stream) h (all-at (basic_of T) xs no_stream e i u)
 
-pub each-bounded : (T : ℕ) (xs : List Stream) (n : ℕ) → n ≤ length xs → T ≤ max_day → all (basic_of T) (take n xs) ≡ true → EachOf Bounded n xs
-each-bounded T xs n h k e i u = basic-bounded T (get_or xs i no_stream) k (each-basic T xs n h e i u)
-
-pub each_within : (T : ℕ) (xs : List Stream) (n : ℕ) → n ≤ length xs → all (basic_of T) (take n xs) ≡ true → EachOf (Within T) n xs
-each_within T xs n h e i u = basic-within T (get_or xs i no_stream) (each-basic T xs n h e i u)
+pub each_within : (T : ℕ) (xs : List Stream) → all (basic_of T) xs ≡ true → EachOf (Within T) xs
+each_within T xs e i u = basic-within T (get_or xs i no_stream) (all-at (basic_of T) xs no_stream e i u)
 
 -- and of the streams of bookings in an accepted file
-pub each-playable : (T : ℕ) (s : List ℕ) (bs : List Booking) (xs : List Stream) (n : ℕ) → n ≤ length xs → T ≤ max_day → verdict s ≡ 0
-    → take n xs ≡ map (stream_of (catalogue_of s)) (take n bs) → all (basic_of T) (take n xs) ≡ true → EachOf (Playable s) n xs
-each-playable T s bs xs n h k v e g i u =
-    let b = each-bounded T xs n h k g i u in
-    let place : get_or xs i no_stream ≡ stream_of (catalogue_of s) (get_or (take n bs) i no_booking) =
-    sym (get_or-take n xs i no_stream u)
-    ∙ ap (λ (l : List Stream). get_or l i no_stream) e
-    ∙ map_at (stream_of (catalogue_of s)) (take n bs) i no_booking no_stream (omega (arith, length-take n xs, ap length e, length-map (take n bs) (stream_of (catalogue_of s)))) in
-    record { bounded = b; stored = rw place (stream-stored s (get_or (take n bs) i no_booking) v (rw place at b.some)) }
+pub each-playable : (T : ℕ) (s : List ℕ) (bs : List Booking) → T ≤ max_day → verdict s ≡ 0
+    → all (basic_of T) (map (stream_of (catalogue_of s)) bs) ≡ true → EachOf (Playable s) (map (stream_of (catalogue_of s)) bs)
+each-playable T s bs h v e i u =
+    let xs = map (stream_of (catalogue_of s)) bs in
+    let b = each-bounded T xs h e i u in
+    let place : get_or xs i no_stream ≡ stream_of (catalogue_of s) (get_or bs i no_booking) =
+    get_or-map (stream_of (catalogue_of s)) bs i no_booking no_stream (omega (arith, length-map bs (stream_of (catalogue_of s)))) in
+    record { bounded = b; stored = rw place (stream-stored s (get_or bs i no_booking) v (rw place at b.some)) }

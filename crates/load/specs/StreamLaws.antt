@@ -1,14 +1,14 @@
 -- Laws of a stream's rounds. Assumes nothing.
-use Rattle.std.specs.Prelude.{◌≡◌, refl, Bool, true, false, cond, not, List, leb, ltb, length, get_or}
-use Rattle.std.proofs.Common.{sym, ◌∙◌, arith, add-one}
-use Prim.Native.Nat.{ℕ, ◌+◌, ◌-◌, ◌≤◌, ◌<◌, min, max}
-use Rattle.std.proofs.Math.Seq.{slice, slice-cons, slice_empty}
-use Rattle.std.specs.Int.Bits.{bit_and}
+use Rattle.std.specs.Prelude.{◌≡◌, Bool, true, false, cond, leb, ltb, refl, not, List, length, get_or}
+use Rattle.std.proofs.Common.{◌∙◌, arith, sym, add-one}
+use Prim.Native.Nat.{ℕ, ◌≤◌, ◌<◌, ◌+◌, ◌-◌, min, max}
 use borrow.Author.Tests.{lt-ltb, le-ltb, le-leb, lt-leb, ltb-true, leb-true, leb-false, eq-eqb, ne_eqb}
 use Rattle.laws.specs.Tests.{left, right, all}
 use Rattle.load.specs.Stream.{end_of, open_in, total, clashes, pairs_clear}
-use Rattle.load.specs.Lists.{ltb-same}
 use Rattle.load.specs.declared.stream.Stream.{Stream}
+use Rattle.std.proofs.Math.Seq.{slice, slice-cons, slice_empty}
+use Rattle.std.specs.Int.Bits.{bit_and}
+use Rattle.load.specs.Lists.{ltb-same}
 
 -- ---- open
 
@@ -31,6 +31,12 @@ unfolding open_in
 open-place t x e =
     (leb-true _ _ (left (leb x.start t) (ltb t (end_of x)) e), ltb-true _ _ (right (leb x.start t) e))
 
+-- ---- sums
+
+pub cond-most : (v : Bool) (a m : ℕ) → a ≤ m → cond v a 0 ≤ m
+cond-most true a m h = h
+cond-most false a m h = omega arith
+
 -- counted from its start and its first showing round
 pub open-counted : (t : ℕ) (x : Stream) → x.start ≤ t → x.prefetch ≤ t - x.start
     → ltb (t - x.start - x.prefetch) x.rounds ≡ open_in t x
@@ -38,13 +44,10 @@ open-counted t x h k =
     ltb-same (t - x.start - x.prefetch) x.rounds t (end_of x) (λ u. omega arith) (λ u. omega arith)
     ∙ sym (open-from t x h)
 
--- ---- two streams
-
 pub clear_apart : (x y : Stream) → bit_and x.cabs y.cabs ≡ 0 → not (clashes x y) ≡ true
 unfolding clashes
 clear_apart x y e = rw (eq-eqb (bit_and x.cabs y.cabs) 0 e)
 
--- with a cab in common, what counts is whether they show in a common round
 module _ (x y : Stream) (e : bit_and x.cabs y.cabs ≡ 0 → ⊥) where
   -- x begins to show after y has ended
   pub clear-after : end_of y ≤ x.start + x.prefetch → not (clashes x y) ≡ true
@@ -71,12 +74,6 @@ module _ (x y : Stream) (e : bit_and x.cabs y.cabs ≡ 0 → ⊥) where
       go : (v : Bool) → leb (end_of x) (y.start + y.prefetch) ≡ v → leb (end_of x) (y.start + y.prefetch) ≡ not (ltb first last)
       go true u = rw (le-ltb first last (omega (arith, leb-true (end_of x) (y.start + y.prefetch) u))) u
       go false u = rw (lt-ltb first last (omega (arith, leb-false (end_of x) (y.start + y.prefetch) u))) u
-
--- ---- sums and pairs, stream by stream
-
-pub cond-most : (v : Bool) (a m : ℕ) → a ≤ m → cond v a 0 ≤ m
-cond-most true a m h = h
-cond-most false a m h = omega arith
 
 module _ (xs : List Stream) (i n : ℕ) (d : Stream) (h : i < n) (k : n ≤ length xs) where
   pub total-next : (g : Stream → ℕ) → total g (slice i n xs) ≡ g (get_or xs i d) + total g (slice (i + 1) n xs)

@@ -1,15 +1,21 @@
-ghost use Rattle.std.specs.Prelude.{◌≡◌, ◌≤◌};
+// Bookings with their films' places in the file.
+ghost use Rattle.std.specs.Prelude.{◌≡◌, ◌+◌, ◌≤◌, length, map};
 ghost use Rattle.limits.specs.Bounds.{max_bookings};
-ghost use Rattle.load.specs.Stream.{open_in};
-ghost use Rattle.load.specs.Streams.{stream_of, streams_of};
+ghost use Rattle.retrieval.specs.Stored.{sends_in};
+ghost use Rattle.load.specs.Basic.{Bounded, Playable, ends_by};
+ghost use Rattle.load.specs.Stream.{sends_of, length_of, end_of, open_in};
+ghost use Rattle.load.specs.Streams.{stream_of};
 
+use arrayvec::ArrayVec;
+use films::file::Entry;
+use films::film::Sizes;
 use films::lookup::lookup;
-use films::types::{Catalogue, Lookup};
 use limits::bounds::MAX_BOOKINGS;
 use model::Booking;
+use retrieval::Schedule;
 
 // A booking together with its film's place in the file.
-#[derive(Clone, Copy)]
+#[derive(Clone, Copy, PartialEq, Eq, Debug, Default)]
 pub struct Stream {
     // offset of the film's sizes in the file, in bytes
     pub at: usize,
@@ -23,68 +29,82 @@ pub struct Stream {
     pub cabs: u64,
 }
 
-// The booking with its film's place in the file; a film that is not there has none and no rounds.
-pub fn stream_of(c: Catalogue, b: Booking) -> Stream
-    ensures { result ≡ stream_of c b }
-{
-    match lookup(c, b.film as u64) {
-        Lookup::Found(at, rounds) => Stream {
-            at,
-            rounds,
-            start: b.start as usize,
-            prefetch: b.prefetch as usize,
-            reserve: b.reserve as u64,
-            cabs: b.cabs,
-        },
-        Lookup::Missing => Stream {
-            at: 0,
-            rounds: 0,
-            start: b.start as usize,
-            prefetch: b.prefetch as usize,
-            reserve: b.reserve as u64,
-            cabs: b.cabs,
-        },
+impl Stream {
+    // s+p+n, for any numbers.
+    fn wide_end(self) -> u128
+        ensures { result ≡ end_of self }
+    {
+        self.start as u128 + self.prefetch as u128 + self.rounds as u128
+    }
+
+    // s+p+n: the round that is free of the stream.
+    pub fn end(self) -> usize
+        requires { Bounded self }
+        ensures { result ≡ end_of self }
+    {
+        self.start + self.prefetch + self.rounds
+    }
+
+    // Whether s+p+n ≤ T, for any numbers.
+    #[tactic(auto, unfolding(crate::specs::Basic::ends_by))]
+    pub fn ends_by(self, day_rounds: u64) -> bool
+        ensures { result ≡ ends_by day_rounds self }
+    {
+        self.wide_end() <= day_rounds as u128
+    }
+
+    // Whether the stream is open in round t: rounds s to s+p+n-1.
+    #[tactic(auto, unfolding(crate::specs::Stream::open_in))]
+    pub fn open_in(self, t: usize) -> bool
+        ensures { result ≡ open_in t self }
+    {
+        self.start <= t && (t as u128) < self.wide_end()
+    }
+
+    // Its film's just-in-time schedule, rounds counted from its start.
+    pub fn schedule(self, file: &[u8]) -> Schedule<'_>
+        requires { Playable file.now self }
+        ensures sends { sends_in result.sizes result.prefetch ≡ sends_of file.now self }
+        ensures rounds { result.prefetch + result.sizes.rounds ≡ length_of self }
+        ensures reserve { result.reserve ≡ self.reserve }
+    {
+        let sizes = Sizes {
+            file,
+            at: self.at,
+            rounds: self.rounds,
+        };
+        Schedule {
+            sizes,
+            prefetch: self.prefetch,
+            reserve: self.reserve,
+        }
     }
 }
 
-// Those of the first `count` bookings, and zeros after them.
-pub fn streams_of(
-    c: Catalogue,
-    rows: [Booking; MAX_BOOKINGS],
-    count: usize,
-) -> [Stream; MAX_BOOKINGS]
-    requires { count ≤ max_bookings }
-    ensures { result ≡ streams_of c count rows }
+// The booking with its film's place in the file; a film that is not there has none and no rounds.
+#[tactic(auto, unfolding(crate::specs::Streams::stream_of))]
+pub fn stream_of(films: &[Entry], b: Booking) -> Stream
+    ensures { result ≡ stream_of films.now b }
 {
-    let none = Stream {
-        at: 0,
-        rounds: 0,
-        start: 0,
-        prefetch: 0,
-        reserve: 0,
-        cabs: 0,
-    };
-    let mut xs = [none; MAX_BOOKINGS];
-    let mut i = 0;
-    while i < count {
-        let b = rows[i];
-        let x = stream_of(c, b);
-        xs[i] = x;
-        i += 1;
+    let place = lookup(films, b.film as u64).unwrap_or_default();
+    Stream {
+        at: place.at,
+        rounds: place.rounds,
+        start: b.start as usize,
+        prefetch: b.prefetch as usize,
+        reserve: b.reserve as u64,
+        cabs: b.cabs,
+    }
+}
+
+// Those of the bookings.
+pub fn streams_of(films: &[Entry], rows: &[Booking]) -> ArrayVec<Stream, MAX_BOOKINGS>
+    requires { length rows.now ≤ max_bookings }
+    ensures { result.items ≡ map (stream_of films.now) rows.now }
+{
+    let mut xs = ArrayVec::new();
+    for b in rows {
+        xs.push(stream_of(films, *b));
     }
     xs
-}
-
-// Whether the stream is open in round t: rounds s to s+p+n-1.
-pub fn open_in(x: Stream, t: usize) -> bool
-    ensures { result ≡ open_in t x }
-{
-    if t < x.start {
-        return false;
-    }
-    let age = t - x.start;
-    if age < x.prefetch {
-        return true;
-    }
-    age - x.prefetch < x.rounds
 }

@@ -1,16 +1,14 @@
 // The disk loss: what a round with k films open loses to arm movement.
-#![tactic(auto)]
+#![tactic(auto, unfolding(crate::specs::Loss::table))]
 
 ghost use Rattle.std.specs.Prelude.{◌≡◌};
 ghost use Rattle.loss.specs.Loss.{table, loss_at};
-
-use limits::bounds::MAX_BOOKINGS;
 
 // entries of the table
 pub const ENTRIES: usize = 257;
 
 // loss(k) in bytes, k from 0 to 256
-const LOSS: [u64; ENTRIES] = [
+static LOSS: [u64; ENTRIES] = [
     0, 100000, 141421, 173205, 200000, 223606, 244948, 264575, 282842, 300000, 316227, 331662,
     346410, 360555, 374165, 387298, 400000, 412310, 424264, 435889, 447213, 458257, 469041, 479583,
     489897, 500000, 509901, 519615, 529150, 538516, 547722, 556776, 565685, 574456, 583095, 591607,
@@ -41,11 +39,7 @@ const LOSS: [u64; ENTRIES] = [
 pub fn loss(k: u64) -> u64
     ensures { result ≡ loss_at k }
 {
-    if k <= MAX_BOOKINGS as u64 {
-        LOSS[k as usize]
-    } else {
-        0
-    }
+    LOSS.get(k as usize).copied().unwrap_or(0)
 }
 
 // The whole table, for a caller that asks of many rounds.

@@ -1,12 +1,14 @@
 -- The values that the code passes, as the definitions take them: a contract says that answer, day, records, sheet and
 -- report afterwards are those of the call on `state_of ..` in `setting_of ..`.
-use Rattle.std.specs.Prelude.{List, ℕ, zero, suc}
+use Rattle.std.specs.Prelude.{◌≡◌, List, ℕ, zero, suc}
 use Rattle.laws.specs.Questions.{refusal}
 use Rattle.films.specs.Layout.{Film}
 use Rattle.model.specs.Day.{Setting, State}
 use Rattle.model.specs.Calls.{open_questions, open_call}
 use Rattle.model.specs.declared.Booking.{Booking}
 use Rattle.model.specs.declared.Day.{Day}
+use Rattle.model.specs.declared.Desk.{Desk}
+use Rattle.model.specs.declared.Sheet.{Sheet}
 
 -- from the file's verdict and films, the loss and the day
 abbrev pub setting_of : ℕ → List Film → (ℕ → ℕ) → Day → Setting
@@ -29,3 +31,14 @@ opened_day S d old (suc k) = old
 
 abbrev pub day_opened : Setting → State → Day → Day
 day_opened S d old = opened_day S d old (refusal (open_questions S d))
+
+-- ---- the same of the code's desk and sheet
+
+abbrev pub state_in : Desk → Sheet → State
+state_in desk sheet = state_of desk.day desk.rows desk.places sheet.opens.now sheet.reserves.now sheet.helds.now
+
+-- the sheet's three lists are those that it had, whatever stands in them
+pub record SameLists (before after : Sheet) : Type 0 where
+  pub opens : after.opens.ghost_name ≡ before.opens.ghost_name
+  pub reserves : after.reserves.ghost_name ≡ before.reserves.ghost_name
+  pub helds : after.helds.ghost_name ≡ before.helds.ghost_name

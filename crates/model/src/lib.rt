@@ -2,9 +2,11 @@
 // Rust can lend them.
 #![tactic(auto)]
 
+use limits::bounds::MAX_BOOKINGS;
+
 // A record of the list of bookings. The desk chooses the name; cabs has one bit per cab.
 #[repr(C)]
-#[derive(Clone, Copy)]
+#[derive(Clone, Copy, PartialEq, Eq, Debug, Default)]
 pub struct Booking {
     pub name: u32,
     pub film: u16,
@@ -17,7 +19,7 @@ pub struct Booking {
 // A booking as it is asked for. Every number but the name is 64 bits wide, so that one too large for its field meets that
 // field's own question.
 #[repr(C)]
-#[derive(Clone, Copy)]
+#[derive(Clone, Copy, PartialEq, Eq, Debug)]
 pub struct Request {
     pub name: u32,
     pub film: u64,
@@ -31,7 +33,7 @@ pub struct Request {
 // A day: T rounds, the disk limit D in bytes per round, the memory limit M in bytes, the current round and the number of
 // bookings that stand.
 #[repr(C)]
-#[derive(Clone, Copy)]
+#[derive(Clone, Copy, PartialEq, Eq, Debug, Default)]
 pub struct Day {
     pub rounds: u64,
     pub disk: u64,
@@ -42,7 +44,7 @@ pub struct Day {
 
 // A line of a round's report, in bytes.
 #[repr(C)]
-#[derive(Clone, Copy)]
+#[derive(Clone, Copy, PartialEq, Eq, Debug, Default)]
 pub struct Line {
     pub name: u32,
     pub read: u64,
@@ -52,11 +54,27 @@ pub struct Line {
 
 // What a call answers: a refusal's number; an opened day; a booking's start; a name taken out; the films open and the cabs
 // served in a played round.
-#[derive(Clone, Copy)]
+#[derive(Clone, Copy, PartialEq, Eq, Debug)]
 pub enum Answer {
     Refused(u32),
     Opened,
     Booked(u64),
     Dropped,
     Played(u64, u64),
+}
+
+// The desk between two calls: the day, the first 256 places of the list of records, and how many places the list has.
+#[derive(Clone, Copy)]
+pub struct Desk {
+    pub day: Day,
+    pub rows: [Booking; MAX_BOOKINGS],
+    pub places: u64,
+}
+
+// The day sheet as it is lent: of each round the films open, the sum of their reserves and the sum of the bytes held.
+#[derive(Drop)]
+pub struct Sheet<'a> {
+    pub opens: &'a mut [u64],
+    pub reserves: &'a mut [u64],
+    pub helds: &'a mut [u64],
 }

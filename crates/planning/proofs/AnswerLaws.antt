@@ -1,18 +1,20 @@
 -- The answers of a call by the facts that the code's tests leave. Assumes nothing.
-use Rattle.std.specs.Prelude.{◌≡◌, Bool, not, List, ◌++◌, ℕ, zero, suc, ◌+◌, ◌≤◌, ◌<◌, length, drop}
+use Rattle.std.specs.Prelude.{◌≡◌, Bool, not, List, ◌++◌, ℕ, zero, suc, ◌+◌, ◌≤◌, ◌<◌, Ok, Err, length, drop}
 use Rattle.std.proofs.Math.Path.{sym}
-use Rattle.std.proofs.Common.{◌∙◌, arith}
+use Rattle.std.proofs.Common.{ap, refl, ◌∙◌, arith}
 use Rattle.std.proofs.Math.Bool.{true, false}
 use borrow.Author.Tests.{le-leb, lt-leb, not-true, not-false}
 use Rattle.laws.specs.Questions.{refusal}
 use Rattle.laws.specs.Sums.{largest}
 use Rattle.limits.specs.Bounds.{max_prefetch, max_reserve}
 use Rattle.limits.specs.Refusals.{prefetch_bound, reserve_bound, no_room, no_schedule, cap_bound}
-use Rattle.planning.specs.declared.schedules.Scheduled.TheVariants.{Refused, Written}
-use Rattle.planning.specs.declared.reserves.Reserve.TheVariants as reserve-as
+use Rattle.limits.specs.declared.refusals.Refusal.{Refusal}
+use Rattle.limits.specs.Refusals.{number_of}
+use Rattle.limits.specs.Numbered.{numbered}
+use Rattle.limits.proofs.Numbers.{number-positive}
 use Rattle.retrieval.specs.Schedule.{sends}
 use Rattle.retrieval.specs.JustInTime.{exists_by}
-use Rattle.planning.specs.Answers.{plan_questions, plan_totals, Planned, reserve_by, cap_questions}
+use Rattle.planning.specs.Answers.{answer_by, written_by, plan_questions, plan_totals, Planned, cap_questions}
 
 -- ---- a schedule's questions
 
@@ -46,26 +48,27 @@ module _ (sizes : List ℕ) (p b places : ℕ) where
           let t : exists_by b (sends p sizes) ≡ true = sym e ∙ not-false r n in
           simp (le-leb _ _ h, le-leb _ _ k, le-leb _ _ l, t)
 
--- ---- its answers
+-- ---- the answer, where q is the number of the first "no"
 
-pub planned-refused : (sizes : List ℕ) (p b : ℕ) (out : List ℕ) (k : ℕ) → 0 < k → refusal (plan_questions sizes p b (length out)) ≡ k
-    → Planned sizes p b out (Refused k) out
-planned-refused sizes p b out zero h e = absurd (omega arith)
-planned-refused sizes p b out (suc k) h e = record { answer = rw e; places = rw e }
+pub refused : (q value : ℕ) (r : Refusal) → q ≡ number_of r → numbered (Err r) ≡ answer_by q value
+refused zero value r e = absurd (omega (arith, number-positive r))
+refused (suc q) value r e = ap Err (sym e)
+
+pub accepted : (q m value : ℕ) → q ≡ 0 → m ≡ value → numbered (Ok m) ≡ answer_by q value
+accepted q m value e f = rw (e, f)
+
+-- nothing is written where a question says no
+pub unwritten : (q : ℕ) (totals out : List ℕ) (r : Refusal) → q ≡ number_of r → out ≡ written_by q totals out
+unwritten zero totals out r e = absurd (omega (arith, number-positive r))
+unwritten (suc q) totals out r e = refl
+
+pub planned-refused : (sizes : List ℕ) (p b : ℕ) (out : List ℕ) (r : Refusal) → refusal (plan_questions sizes p b (length out)) ≡ number_of r
+    → Planned sizes p b out (Err r) out
+planned-refused sizes p b out r e = record { answer = refused _ _ r e; places = unwritten _ _ out r e }
 
 pub planned-written : (sizes : List ℕ) (p b : ℕ) (out after : List ℕ) (m : ℕ) → refusal (plan_questions sizes p b (length out)) ≡ 0
-    → length (plan_totals sizes p b) ≡ m → after ≡ plan_totals sizes p b ++ drop m out → Planned sizes p b out (Written m) after
-planned-written sizes p b out after m e l w =
-    record { answer = rw (e, l); places = rw (e, l) w }
-
--- ---- a least reserve's answers, where q is the number of the first "no"
-
-pub reserve-refused : (q k b : ℕ) → 0 < k → q ≡ k → reserve-as.Refused k ≡ reserve_by q b
-reserve-refused q zero b h e = absurd (omega arith)
-reserve-refused q (suc k) b h e = rw e
-
-pub reserve-bytes : (q b m : ℕ) → q ≡ 0 → b ≡ m → reserve-as.Bytes b ≡ reserve_by q m
-reserve-bytes q b m e f = rw (e, f)
+    → length (plan_totals sizes p b) ≡ m → after ≡ plan_totals sizes p b ++ drop m out → Planned sizes p b out (Ok m) after
+planned-written sizes p b out after m e l w = record { answer = accepted _ m _ e (sym l); places = rw (e, l) w }
 
 -- ---- a least reserve's questions
 

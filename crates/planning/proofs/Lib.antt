@@ -1,3 +1,4 @@
 pub mod AnswerLaws
 pub mod FileAnswers
+pub mod Sizes
 pub mod Written

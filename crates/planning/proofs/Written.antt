@@ -1,6 +1,6 @@
 -- The just-in-time totals where they are written, from the last place backward. Assumes nothing.
 use Rattle.std.specs.Prelude.{◌≡◌, refl, List, [], ◌∷◌, ℕ, zero, suc, ◌+◌, ◌-◌, ◌≤◌, ◌<◌, max, length, get_or, drop}
-use Rattle.std.proofs.Common.{not-suc-le-zero, le_of_suc-le-suc, arith}
+use Rattle.std.proofs.Common.{not-suc-le-zero, arith, le_of_suc-le-suc}
 use Rattle.laws.specs.Sums.{sum}
 use Rattle.retrieval.specs.Schedule.{sends, totals}
 use Rattle.retrieval.specs.JustInTime.{just_in_time}
@@ -12,20 +12,6 @@ use Rattle.retrieval.proofs.RoundLaws.{totals-at}
 pub sum-sends : (p : ℕ) (xs : List ℕ) → sum (sends p xs) ≡ sum xs
 sum-sends zero xs = refl
 sum-sends (suc p) xs = omega (arith, sum-sends p xs)
-
-sum_drop : (xs : List ℕ) (t : ℕ) → t < length xs → sum (drop t xs) ≡ get_or xs t 0 + sum (drop (suc t) xs)
-sum_drop [] t h = absurd (not-suc-le-zero h)
-sum_drop (x ∷ xs) zero h = refl
-sum_drop (x ∷ xs) (suc t) h = sum_drop xs t (le_of_suc-le-suc h)
-
--- a turn of a loop from k to k - 1 that adds
-pub turn-sum : (k x a : ℕ) (xs : List ℕ) → 0 < k → k ≤ length xs → a ≡ sum (drop k xs) → x ≡ get_or xs (k - 1) 0
-    → a + x ≡ sum (drop (k - 1) xs)
-turn-sum zero x a xs h l ea ex = absurd (not-suc-le-zero h)
-turn-sum (suc k) x a xs h l ea ex =
-    let e : suc k - 1 ≡ k = omega arith in
-    let ex' : x ≡ get_or xs k 0 = rw e at ex in
-    rw e (omega (arith, sum_drop xs k l))
 
 -- ---- C by its place: C(k-1) stands at k behind C(-1)
 
@@ -62,3 +48,17 @@ turn-rule b (suc (suc t)) due sent xs h l ed es =
     let ed' : due ≡ get_or (just_in_time b 0 xs) (suc t) 0 = rw d at ed in
     let es' : sent ≡ get_or (totals 0 xs) t 0 = rw d at es in
     rw d' (omega (arith, just_in_time-before b 0 xs t l))
+
+sum_drop : (xs : List ℕ) (t : ℕ) → t < length xs → sum (drop t xs) ≡ get_or xs t 0 + sum (drop (suc t) xs)
+sum_drop [] t h = absurd (not-suc-le-zero h)
+sum_drop (x ∷ xs) zero h = refl
+sum_drop (x ∷ xs) (suc t) h = sum_drop xs t (le_of_suc-le-suc h)
+
+-- a turn of a loop from k to k - 1 that adds
+pub turn-sum : (k x a : ℕ) (xs : List ℕ) → 0 < k → k ≤ length xs → a ≡ sum (drop k xs) → x ≡ get_or xs (k - 1) 0
+    → a + x ≡ sum (drop (k - 1) xs)
+turn-sum zero x a xs h l ea ex = absurd (not-suc-le-zero h)
+turn-sum (suc k) x a xs h l ea ex =
+    let e : suc k - 1 ≡ k = omega arith in
+    let ex' : x ≡ get_or xs k 0 = rw e at ex in
+    rw e (omega (arith, sum_drop xs k l))

@@ -1,19 +1,29 @@
 -- What a call for a schedule and a call for a least reserve answer. Document 01, 'Questions at the counter'.
-use Rattle.std.specs.Prelude.{◌≡◌, List, [], ◌∷◌, ◌++◌, ℕ, zero, suc, ◌+◌, length, drop, leb}
+use Rattle.std.specs.Prelude.{◌≡◌, List, [], ◌∷◌, ◌++◌, ℕ, zero, suc, ◌+◌, Result, Ok, Err, length, drop, leb}
 use Rattle.laws.specs.Questions.{Question, refusal}
 use Rattle.laws.specs.Sums.{largest}
 use Rattle.limits.specs.Bounds.{max_prefetch, max_reserve}
+use Rattle.limits.specs.declared.refusals.Refusal.{Refusal}
 use Rattle.limits.specs.Refusals.{no_film, prefetch_bound, reserve_bound, no_room, no_schedule, cap_bound}
+use Rattle.limits.specs.Numbered.{numbered}
 use Rattle.films.specs.Layout.{in_file, sizes_of}
 use Rattle.films.specs.Decode.{films_of}
 use Rattle.films.specs.Questions.{file}
-use Rattle.planning.specs.declared.schedules.Scheduled.{Scheduled}
-use Rattle.planning.specs.declared.schedules.Scheduled.TheVariants as scheduled-as
-use Rattle.planning.specs.declared.reserves.Reserve.{Reserve}
-use Rattle.planning.specs.declared.reserves.Reserve.TheVariants as reserve-as
 use Rattle.retrieval.specs.Schedule.{sends}
 use Rattle.retrieval.specs.JustInTime.{just_in_time, exists_by}
 use Rattle.retrieval.specs.LeastReserve.{least_reserve}
+
+-- ---- Answers: a value, or the number of a refusal
+
+-- the answer by the number of the first "no": that number, or the value
+abbrev pub answer_by : ℕ → ℕ → Result ℕ ℕ
+answer_by zero value = Ok value
+answer_by (suc k) value = Err (suc k)
+
+-- the paper's values of an answer
+abbrev pub answer_values : Result ℕ ℕ → List ℕ
+answer_values (Ok value) = value ∷ []
+answer_values (Err k) = []
 
 -- ---- Schedule
 
@@ -33,20 +43,6 @@ unfoldable pub schedule_questions : List ℕ → ℕ → ℕ → ℕ → ℕ →
 schedule_questions s film p b places =
     file s ∷ (in_file (films_of s) film, no_film) ∷ plan_questions (sizes_of (films_of s) film) p b places
 
--- the answer by the number of the first "no": that number, or how many totals are written
-abbrev pub scheduled_by : ℕ → List ℕ → Scheduled
-scheduled_by zero totals = scheduled-as.Written (length totals)
-scheduled_by (suc k) totals = scheduled-as.Refused (suc k)
-
--- the paper's number and values of an answer
-abbrev pub scheduled_number : Scheduled → ℕ
-scheduled_number (scheduled-as.Refused k) = k
-scheduled_number (scheduled-as.Written m) = 0
-
-abbrev pub scheduled_values : Scheduled → List ℕ
-scheduled_values (scheduled-as.Refused k) = []
-scheduled_values (scheduled-as.Written m) = m ∷ []
-
 -- the lent list afterwards: the totals, and "places from p+n on are untouched"; "a refusal .. changes nothing lent"
 abbrev pub written_by : ℕ → List ℕ → List ℕ → List ℕ
 written_by zero totals out = totals ++ drop (length totals) out
@@ -57,14 +53,14 @@ abbrev pub plan_totals : List ℕ → ℕ → ℕ → List ℕ
 plan_totals sizes p b = just_in_time b 0 (sends p sizes)
 
 -- an answer, and the list after it, of a film's sizes
-pub record Planned (sizes : List ℕ) (p b : ℕ) (out : List ℕ) (r : Scheduled) (after : List ℕ) : Type 0 where
-  pub answer : r ≡ scheduled_by (refusal (plan_questions sizes p b (length out))) (plan_totals sizes p b)
+pub record Planned (sizes : List ℕ) (p b : ℕ) (out : List ℕ) (r : Result ℕ Refusal) (after : List ℕ) : Type 0 where
+  pub answer : numbered r ≡ answer_by (refusal (plan_questions sizes p b (length out))) (length (plan_totals sizes p b))
   pub places : after ≡ written_by (refusal (plan_questions sizes p b (length out))) (plan_totals sizes p b) out
 
--- the answer of a call, and the list after it
-unfoldable pub scheduled : List ℕ → ℕ → ℕ → ℕ → ℕ → Scheduled
+-- the answer of a call, which is how many totals are written, and the list after it
+unfoldable pub scheduled : List ℕ → ℕ → ℕ → ℕ → ℕ → Result ℕ ℕ
 scheduled s film p b places =
-    scheduled_by (refusal (schedule_questions s film p b places)) (plan_totals (sizes_of (films_of s) film) p b)
+    answer_by (refusal (schedule_questions s film p b places)) (length (plan_totals (sizes_of (films_of s) film) p b))
 
 unfoldable pub schedule_out : List ℕ → ℕ → ℕ → ℕ → List ℕ → List ℕ
 schedule_out s film p b out =
@@ -80,21 +76,7 @@ cap_questions sizes p cap = (leb p max_prefetch, prefetch_bound) ∷ (leb (large
 unfoldable pub reserve_questions : List ℕ → ℕ → ℕ → ℕ → List Question
 reserve_questions s film p cap = file s ∷ (in_file (films_of s) film, no_film) ∷ cap_questions (sizes_of (films_of s) film) p cap
 
--- the answer by the number of the first "no": that number, or the least reserve
-abbrev pub reserve_by : ℕ → ℕ → Reserve
-reserve_by zero b = reserve-as.Bytes b
-reserve_by (suc k) b = reserve-as.Refused (suc k)
-
--- the paper's number and values of an answer
-abbrev pub reserve_number : Reserve → ℕ
-reserve_number (reserve-as.Refused k) = k
-reserve_number (reserve-as.Bytes b) = 0
-
-abbrev pub reserve_values : Reserve → List ℕ
-reserve_values (reserve-as.Refused k) = []
-reserve_values (reserve-as.Bytes b) = b ∷ []
-
--- the answer of a call
-unfoldable pub reserved : List ℕ → ℕ → ℕ → ℕ → Reserve
+-- the answer of a call, which is the least reserve
+unfoldable pub reserved : List ℕ → ℕ → ℕ → ℕ → Result ℕ ℕ
 reserved s film p cap =
-    reserve_by (refusal (reserve_questions s film p cap)) (least_reserve (sends p (sizes_of (films_of s) film)) cap)
+    answer_by (refusal (reserve_questions s film p cap)) (least_reserve (sends p (sizes_of (films_of s) film)) cap)

@@ -1,4 +1,3 @@
 -- What the calls for a schedule and for a least reserve answer (document 01, 'Questions at the counter'), and the laws by which
 -- the code answers it.
 pub mod Answers
-pub mod Written

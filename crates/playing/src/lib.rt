@@ -1,105 +1,85 @@
-// Playing a round of a day, by value.
+// Playing a round of a day.
 #![tactic(auto)]
 
 pub mod cabs;
 pub mod lines;
 
-ghost use Rattle.std.specs.Prelude.{◌≡◌};
+ghost use Rattle.std.specs.Prelude.{◌≡◌, []};
 ghost use Rattle.laws.specs.Questions.{refusal};
-ghost use Rattle.films.specs.Catalogue.{catalogue_of};
+ghost use Rattle.limits.specs.Refusals.{number, number_of};
+ghost use Rattle.model.specs.declared.Answer.TheVariants.{Refused};
 ghost use Rattle.questions.specs.Numbers.{standing_asks};
-ghost use Rattle.playing.specs.Contract.{refused_as, Plays};
-ghost use Rattle.playing.specs.Laws.{own_asks};
+ghost use Rattle.playing.specs.Contract.{Plays};
+ghost use Rattle.playing.specs.Questions.{own_asks};
 
+use arrayvec::ArrayVec;
 use cabs::cabs_served;
-use films::catalogue::catalogue;
-use films::types::Catalogue;
+use films::file::FilmFile;
 use limits::bounds::MAX_BOOKINGS;
-use limits::refusals::{DAY_OVER, NO_ROOM};
+use limits::refusals::Refusal;
 use lines::lines_of;
-use model::{Answer, Booking, Day, Line};
-use questions::standing::standing_number;
+use model::{Answer, Day, Desk, Line};
+use questions::standing::read_standing;
 
-// What a played round answers, the day after it, and the lines of its report from the front.
-#[derive(Clone, Copy)]
+// What a played round answers, and the lines of its report.
+#[derive(Drop)]
 pub struct Played {
     pub answer: Answer,
-    pub day: Day,
-    pub lines: [Line; MAX_BOOKINGS],
+    pub lines: ArrayVec<Line, MAX_BOOKINGS>,
 }
 
-// A refusal: its number, the day as it was, and no line.
-fn refused(number: u32, day: Day) -> Played
-    ensures { result ≡ refused_as number day }
+// A refusal has no line.
+fn refused(refusal: Refusal) -> Played
+    ensures answer { result.answer ≡ Refused (number_of refusal) }
+    ensures lines { result.lines.items ≡ [] }
 {
-    let blank = Line {
-        name: 0,
-        read: 0,
-        send: 0,
-        held: 0,
-    };
     Played {
-        answer: Answer::Refused(number),
-        day,
-        lines: [blank; MAX_BOOKINGS],
+        answer: Answer::Refused(refusal.number()),
+        lines: ArrayVec::new(),
     }
 }
 
-// Is `now` below T, and does the report take every open film? The number of the first that says no; 0 if none does.
-fn own_number(day: Day, films: u64, room: u64) -> u32
-    ensures { result ≡ refusal (own_asks day.now day.rounds films room) }
+// Is `now` below T, and does the report take every open film?
+#[tactic(auto, unfolding(crate::specs::Questions::own_asks))]
+fn ask_own(day: Day, films: u64, room: u64) -> Result<(), Refusal>
+    ensures { number result ≡ refusal (own_asks day.now day.rounds films room) }
 {
     if day.rounds <= day.now {
-        return DAY_OVER;
+        return Err(Refusal::DayOver);
     }
     if room < films {
-        return NO_ROOM;
+        return Err(Refusal::NoRoom);
     }
-    0
+    Ok(())
 }
 
-// Playing where the file's questions, 14, 15 and 16 have passed; c is the file's catalogue.
-pub fn play_standing(
-    file: &[u8],
-    c: Catalogue,
-    day: Day,
-    rows: [Booking; MAX_BOOKINGS],
-    places: u64,
-    room: u64,
-) -> Played
-    requires { (c ≡ catalogue_of file.now) × (refusal (standing_asks file.now day rows places day.rounds day.rounds day.rounds) ≡ 0) }
-    ensures { Plays file.now day rows places room result }
+// Playing where the file's questions, 14, 15 and 16 have passed.
+pub fn play_standing(film_file: &FilmFile<'_>, desk: &mut Desk, room: u64) -> Played
+    requires { refusal (standing_asks film_file.now.bytes.now desk.old desk.old.day.rounds desk.old.day.rounds desk.old.day.rounds) ≡ 0 }
+    ensures { Plays film_file.now.bytes.now desk.old room result.answer result.lines.items desk.new }
 {
-    let report = lines_of(file, c, day, rows);
-    let own = own_number(day, report.open, room);
-    if own != 0 {
-        return refused(own, day);
+    let lines = lines_of(film_file, desk);
+    let films = lines.len() as u64;
+    if let Err(refusal) = ask_own(desk.day, films, room) {
+        return refused(refusal);
     }
-    let cabs = cabs_served(file, c, day, rows);
-    let lines = report.lines;
+    let cabs = cabs_served(film_file, desk);
+    desk.day.now += 1;
     Played {
-        answer: Answer::Played(report.open, cabs),
-        day: Day {
-            rounds: day.rounds,
-            disk: day.disk,
-            memory: day.memory,
-            now: day.now + 1,
-            count: day.count,
-        },
+        answer: Answer::Played(films, cabs),
         lines,
     }
 }
 
 // Plays the day's current round, with a report of `room` places: a line for each film open, the films open and the cabs served,
-// and the day one round later. Refused, the day is as it was. No sheet is looked at.
-pub fn play(file: &[u8], day: Day, rows: [Booking; MAX_BOOKINGS], places: u64, room: u64) -> Played
-    ensures { Plays file.now day rows places room result }
+// and the day one round later. Refused, the desk is as it was.
+pub fn play(file: &[u8], desk: &mut Desk, room: u64) -> Played
+    ensures { Plays file.now desk.old room result.answer result.lines.items desk.new }
 {
-    let c = catalogue(file);
-    let t = day.rounds as usize;
-    let number = standing_number(file, c, day, rows, places, t, t, t);
-    if number != 0 {
-        return refused(number, day);
+    // No sheet is looked at, so none can be too short.
+    let t = desk.day.rounds as usize;
+    match read_standing(file, desk, t, t, t) {
+        Ok(film_file) => play_standing(&film_file, desk, room),
+        Err(refusal) => refused(refusal),
     }
-    play_standing(file, c, day, rows, places, room)
 }

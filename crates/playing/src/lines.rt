@@ -1,31 +1,26 @@
 // The report of a round: a line for each film open.
-ghost use Rattle.std.specs.Prelude.{◌≡◌, ◌≤◌, ◌<◌, length, take};
+ghost use Rattle.std.specs.Prelude.{◌≡◌, ◌≤◌, ◌<◌, take};
 ghost use Rattle.model.specs.Report.{lines_of};
 ghost use Rattle.load.specs.Basic.{Playable};
 ghost use Rattle.load.specs.Stream.{end_of};
 ghost use Rattle.questions.specs.Given.{setting_at};
-ghost use Rattle.playing.specs.Lines.{padded, line_at};
+ghost use Rattle.playing.specs.Lines.{line_at};
 ghost use Rattle.playing.specs.Ready.{Ready};
 
-use films::types::Catalogue;
+use arrayvec::ArrayVec;
+use films::file::FilmFile;
 use limits::bounds::MAX_BOOKINGS;
-use load::stream::{Stream, open_in, stream_of};
-use model::{Booking, Day, Line};
-use retrieval::round_at;
-
-// The lines of a round, from the front, and their number.
-#[derive(Clone, Copy)]
-pub struct Report {
-    pub lines: [Line; MAX_BOOKINGS],
-    pub open: u64,
-}
+use load::stream::{Stream, stream_of};
+use model::{Booking, Desk, Line};
 
 // The line of a booking that is open in round t; x is its stream.
 fn line_of(file: &[u8], b: Booking, x: Stream, t: usize) -> Line
-    requires { Playable file.now x × (x.start ≤ t) × (t < end_of x) }
+    requires playable { Playable file.now x }
+    requires started { x.start ≤ t }
+    requires not_over { t < end_of x }
     ensures { result ≡ line_at file.now t b x }
 {
-    let round = round_at(file, x.at, x.rounds, x.prefetch, x.reserve, t - x.start);
+    let round = x.schedule(file).round_at(t - x.start);
     Line {
         name: b.name,
         read: round.read,
@@ -35,32 +30,19 @@ fn line_of(file: &[u8], b: Booking, x: Stream, t: usize) -> Line
 }
 
 // The lines of the day's current round, one for each film open, in the order of the bookings.
-pub fn lines_of(file: &[u8], c: Catalogue, day: Day, rows: [Booking; MAX_BOOKINGS]) -> Report
-    requires { Ready file.now c day rows }
-    ensures { (result.open ≡ length (lines_of (setting_at file.now day) day.now (take day.count rows))) × (result.lines ≡ padded (lines_of (setting_at file.now day) day.now (take day.count rows))) }
+pub fn lines_of(film_file: &FilmFile<'_>, desk: &Desk) -> ArrayVec<Line, MAX_BOOKINGS>
+    requires { Ready film_file.now.bytes.now desk.now }
+    ensures { result.items ≡ lines_of (setting_at film_file.now.bytes.now desk.now.day) desk.now.day.now (take desk.now.day.count desk.now.rows) }
 {
-    let blank = Line {
-        name: 0,
-        read: 0,
-        send: 0,
-        held: 0,
-    };
-    let count = day.count as usize;
-    let mut lines = [blank; MAX_BOOKINGS];
-    let mut k: usize = 0;
-    let mut i: usize = 0;
-    while i < count {
-        let b = rows[i];
-        let x = stream_of(c, b);
-        if open_in(x, day.now as usize) {
-            let line = line_of(file, b, x, day.now as usize);
-            lines[k] = line;
-            k += 1;
+    let count = desk.day.count as usize;
+    let now = desk.day.now as usize;
+    let rows = &desk.rows[..count];
+    let mut lines = ArrayVec::new();
+    for b in rows {
+        let x = stream_of(&film_file.films, *b);
+        if x.open_in(now) {
+            lines.push(line_of(film_file.bytes, *b, x, now));
         }
-        i += 1;
     }
-    Report {
-        lines,
-        open: k as u64,
-    }
+    lines
 }

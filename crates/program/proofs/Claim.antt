@@ -1,9 +1,8 @@
 -- The claim of the program: for every film file, every input and every way in which the input comes in reads, what it prints is
 -- what its definition says (Program.antt). Assumes nothing.
-use Rattle.std.specs.Prelude.{◌≡◌, refl, Bool, true, false, cond, leb, length, take, drop}
+use Rattle.std.specs.Prelude.{◌≡◌, refl, Bool, true, false, cond, leb, length, take, drop, Option, Some}
 use Rattle.std.proofs.Common.{sym, ap, ◌∙◌, arith, length-take, take_at, take_all, le-leb, leb-true, leb-false}
 use mathlib.Core.List.{List, [], ◌++◌, map, append-nil}
-use Rattle.std.proofs.Math.Option.{Option, some}
 use Prim.Native.Nat.{ℕ, zero, suc, ◌+◌, ◌≤◌, ◌<◌}
 use Rattle.limits.specs.Bounds.{hall_file}
 use Rattle.model.specs.Day.{Setting}
@@ -20,7 +19,7 @@ use Rattle.console.proofs.Claim.{session-plain}
 use Rattle.program.specs.Program.{bytes_of, file_number, refusal_text, text_by, program_text}
 use Rattle.program.specs.Contract.{begin_by}
 use Rattle.program.specs.Run.{reads_text, joined, run_text}
-use Rattle.program.proofs.Laws.{number-long}
+use Rattle.program.proofs.Laws.{number_long}
 use Rattle.program.proofs.RunLaws.{reads-printed}
 
 -- `fits` is any decision which lists of bookings fit in a setting (model/proofs/FitLaws.antt, `dec_fits`, is one)
@@ -53,13 +52,13 @@ module _ (fits : (S : Setting) (bs : List Booking) → Dec (Fits S bs)) where
           (append-nil (take (length text) (text ++ drop (length text) buffer)) ∙ take_at text (drop (length text) buffer) (length text) refl)
 
   -- one byte more than the program takes tells that a file is too long: what follows it need not be read
-  pub file-front : (file input : List ℕ) → program_text fits (some (take (hall_file + 1) file)) input ≡ program_text fits (some file) input
+  pub file-front : (file input : List ℕ) → program_text fits (Some (take (hall_file + 1) file)) input ≡ program_text fits (Some file) input
   file-front file input = go (leb (length file) hall_file) refl
     where
       go : (t : Bool) → leb (length file) hall_file ≡ t
-          → program_text fits (some (take (hall_file + 1) file)) input ≡ program_text fits (some file) input
-      go true e = ap (λ (f : List ℕ). program_text fits (some f) input) (take_all (hall_file + 1) file (omega (arith, leb-true (length file) hall_file e)))
+          → program_text fits (Some (take (hall_file + 1) file)) input ≡ program_text fits (Some file) input
+      go true e = ap (λ (f : List ℕ). program_text fits (Some f) input) (take_all (hall_file + 1) file (omega (arith, leb-true (length file) hall_file e)))
       go false e =
           let long : hall_file < length file = leb-false (length file) hall_file e in
           let cut : hall_file < length (take (hall_file + 1) file) = omega (arith, length-take (hall_file + 1) file) in
-          rw (sym (number-long file long), sym (number-long (take (hall_file + 1) file) cut)) refl
+          rw (sym (number_long file long), sym (number_long (take (hall_file + 1) file) cut)) refl

@@ -1,8 +1,7 @@
 -- The session of document 01, 'The program', from the bytes of films.bin and of the input to those of the output.
-use Rattle.std.specs.Prelude.{◌≡◌, List, map, ℕ}
+use Rattle.std.specs.Prelude.{◌≡◌, List, map, ℕ, Some, None}
 use Rattle.std.proofs.Math.Path.{refl}
 use Rattle.std.proofs.Common.{sym, ap, ◌∙◌}
-use Rattle.std.proofs.Math.Option.{none, some}
 use Rattle.films.specs.Questions.{head_questions, exceeds, rounds_in_range, size_questions, file_questions}
 use Rattle.model.specs.Day.{Setting}
 use Rattle.model.specs.Fit.{Fits}
@@ -24,13 +23,13 @@ unfolding file_number head_questions exceeds rounds_in_range size_questions file
 accepted = refl
 
 module _ (fits : (S : Setting) (bs : List Booking) → Dec (Fits S bs)) where
-  pub program-example : program_text fits (some session.film_file) session.input ≡ session.output
+  pub program-example : program_text fits (Some session.film_file) session.input ≡ session.output
   program-example =
       ap (λ (n : ℕ). text_by fits n session.film_file session.input) accepted
       ∙ sym (session-text session.film_file fits (map command_of (lines session.input)) at_start unopened refl)
       ∙ example
 
   -- "A missing file counts as empty": the file's first question says no, and the input is not read
-  pub program-missing : (input : List ℕ) → program_text fits none input ≡ bytes "NO 1\n"
+  pub program-missing : (input : List ℕ) → program_text fits None input ≡ bytes "NO 1\n"
   unfolding file_number head_questions file_questions spell answer_fields
   program-missing input = refl

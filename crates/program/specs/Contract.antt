@@ -1,14 +1,12 @@
 -- What the program's functions leave: at its film file, at the bytes of the input as they come, and at their end.
-use Rattle.std.specs.Prelude.{◌≡◌, Bool, true, false, cond, List, [], ◌∷◌, ℕ, zero, suc, ◌<◌, leb, length, drop}
+use Rattle.std.specs.Prelude.{Bool, true, false, cond, List, [], ◌∷◌, ℕ, zero, suc, leb, length, Result, Ok, Err}
 use Rattle.lines.specs.Lines.{command_held, held_of}
-use Rattle.lines.specs.Feeding.{fed_line, after_line}
+use Rattle.lines.specs.Feeding.{fed_line}
 use Rattle.lines.specs.declared.Splitter.{Splitter}
 use Rattle.text.specs.Digits.{output_bytes}
 use Rattle.console.specs.Session.{SessionState}
-use Rattle.console.specs.Contract.{with_sheet, After, in_front, step_of}
+use Rattle.console.specs.Contract.{After, in_front, step_of}
 use Rattle.program.specs.Program.{file_number, refusal_text}
-use Rattle.program.specs.declared.Begun.{Begun}
-use Rattle.program.specs.declared.Served.{Served}
 
 -- ---- The film file
 
@@ -18,8 +16,9 @@ pub record Beginning : Type 0 where
   pub buffer : List ℕ
   pub count : ℕ
 
-abbrev pub beginning_of : Begun → List ℕ → Beginning
-beginning_of r buffer = record { accepted = r.accepted; buffer = buffer; count = r.length }
+abbrev pub beginning_of : Result (Unit {0}) ℕ → List ℕ → Beginning
+beginning_of (Ok done) buffer = record { accepted = true; buffer = buffer; count = 0 }
+beginning_of (Err count) buffer = record { accepted = false; buffer = buffer; count = count }
 
 -- a refused file: its text at the front of the buffer; with a buffer of less than 8,192 bytes nothing is printed
 unfoldable pub begin_by : ℕ → List ℕ → Beginning
@@ -50,12 +49,3 @@ served_of file s p (b ∷ l) buffer = answered file s (fed_line p (b ∷ l)) buf
 -- "A line ends at byte 10 or the end of input; no line follows a final byte 10."
 unfoldable pub ended_of : List ℕ → SessionState → Splitter → List ℕ → After
 ended_of file s p buffer = cond p.ended (nothing s buffer) (step_of file s (command_held (held_of p)) buffer)
-
--- serving a line from a place on
-pub record Serves (file : List ℕ) (s : SessionState) (p : Splitter) (bytes : List ℕ) (from : ℕ) (buffer : List ℕ) (r : Served)
-    (opens' reserves' helds' buffer' : List ℕ) : Type 0 where
-  pub after : record { state = with_sheet r.session opens' reserves' helds'; buffer = buffer'; count = r.length }
-      ≡ served_of file s p (drop from bytes) buffer
-  pub splitter : r.splitter ≡ fed_line p (drop from bytes)
-  pub rest : drop r.next bytes ≡ after_line p (drop from bytes)
-  pub moved : from < length bytes → from < r.next

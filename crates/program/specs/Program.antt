@@ -1,6 +1,5 @@
 -- What the program prints, from the bytes of its film file and of its input alone. Document 01, 'The program'.
-use Rattle.std.specs.Prelude.{List, [], ◌∷◌, map, ℕ, zero, suc, leb, length}
-use Rattle.std.proofs.Math.Option.{Option, none, some}
+use Rattle.std.specs.Prelude.{List, [], ◌∷◌, map, ℕ, zero, suc, leb, length, Option, Some, None}
 use Rattle.limits.specs.Bounds.{hall_file}
 use Rattle.limits.specs.Refusals.{file_size}
 use Rattle.laws.specs.Questions.{refusal}
@@ -16,8 +15,8 @@ use Rattle.console.specs.PlainSession.{unopened, plain_output}
 
 -- "`hall` reads `films.bin`. .. A missing file counts as empty"
 abbrev pub bytes_of : Option (List ℕ) → List ℕ
-bytes_of none = []
-bytes_of (some file) = file
+bytes_of None = []
+bytes_of (Some file) = file
 
 -- "Is it at most 65,536 bytes? 25.", and then the file's own questions: the first "no" gives the number, 0 if none says no
 unfoldable pub file_number : List ℕ → ℕ

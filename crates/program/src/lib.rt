@@ -1,146 +1,105 @@
 // The program from its film file on: what it prints of the file, of the input as it comes, and at the input's end.
 #![tactic(auto)]
 
-ghost use Rattle.std.specs.Prelude.{◌≡◌, false};
+ghost use Rattle.std.specs.Prelude.{◌≡◌, ◌<◌, length};
+ghost use Rattle.limits.specs.Refusals.{number};
+ghost use Rattle.model.specs.Code.{SameLists};
+ghost use Rattle.lines.specs.Lines.{started};
+ghost use Rattle.lines.specs.Feeding.{fed_line, after_line};
+ghost use Rattle.console.specs.Session.{start_desk};
 ghost use Rattle.console.specs.Contract.{with_sheet, after_of};
 ghost use Rattle.program.specs.Program.{file_number};
-ghost use Rattle.program.specs.Contract.{beginning_of, begin_of, answered, ended_of, Serves};
+ghost use Rattle.program.specs.Contract.{beginning_of, begin_of, served_of, ended_of};
 
 use console::answer::write_first;
-use console::{OUTPUT_BYTES, Session, Stepped, step};
+use console::{OUTPUT_BYTES, step};
 use films::catalogue::verdict;
 use limits::bounds::HALL_FILE;
-use limits::refusals::FILE_SIZE;
-use lines::{Splitter, command, feed_line};
-use model::Answer;
+use limits::refusals::Refusal;
+use lines::Splitter;
+use model::{Answer, Desk, Sheet};
 
-// Whether the program goes on with its film file, and how many bytes of text it prints first.
-#[derive(Clone, Copy)]
-pub struct Begun {
-    pub accepted: bool,
-    pub length: usize,
+// What stands between two reads: the day with its bookings, and the line that is being read.
+#[derive(Drop)]
+pub struct Session {
+    pub desk: Desk,
+    pub line: Splitter,
 }
 
-// The session and the line that is being read after some bytes, the place of the next byte, and how many bytes of text answer
-// the line that ended.
-#[derive(Clone, Copy)]
-pub struct Served {
-    pub session: Session,
-    pub splitter: Splitter,
-    pub next: usize,
-    pub length: usize,
+impl Session {
+    // Before the first byte no day is open, and no line is begun.
+    pub fn start() -> Session
+        ensures { result ≡ record { desk = start_desk; line = started } }
+    {
+        Session {
+            desk: console::start(),
+            line: Splitter::start(),
+        }
+    }
 }
 
-// The number of the program's questions on its film file; 0 if none says no.
-fn file_number(file: &[u8]) -> u32
-    ensures { result ≡ file_number file.now }
+// The program's questions on its film file.
+#[tactic(auto, using(crate::proofs::Laws::number_long, crate::proofs::Laws::number_own))]
+fn ask_film_file(file: &[u8]) -> Result<(), Refusal>
+    ensures { number result ≡ file_number file.now }
 {
     if HALL_FILE < file.len() {
-        return FILE_SIZE;
+        return Err(Refusal::FileSize);
     }
     verdict(file)
 }
 
-// The film file is refused: the program ends after so many bytes of text.
-fn refused(length: usize) -> Begun
-    ensures { result ≡ record { accepted = false; length = length } }
-{
-    Begun {
-        accepted: false,
-        length,
-    }
-}
-
-// The program begins with this film file. A refusal's text is put to the front of `out`, and the program ends; with an `out` of less
-// than OUTPUT_BYTES places none is.
-pub fn begin(file: &[u8], out: &mut [u8]) -> Begun
+// The program begins with this film file. With one that is refused it ends: the refusal's text is put to the front of `out`, and the
+// error is its length; with an `out` of less than OUTPUT_BYTES places no text is.
+pub fn begin(file: &[u8], out: &mut [u8]) -> Result<(), usize>
     ensures { beginning_of result out.new ≡ begin_of file.now out.old }
 {
-    let number = file_number(file);
-    if number == 0 {
-        return Begun {
-            accepted: true,
-            length: 0,
-        };
-    }
+    let Err(refusal) = ask_film_file(file) else {
+        return Ok(());
+    };
     if out.len() < OUTPUT_BYTES {
-        return refused(0);
+        return Err(0);
     }
-    refused(write_first(out, 0, 0, Answer::Refused(number)))
+    Err(write_first(out, 0, 0, Answer::Refused(refusal.number())))
 }
 
-// Answers the line held, if it has ended.
-fn answer_line(
+// Feeds bytes of the input, up to the end of a line, and answers the line as `step` does. Gives how many bytes of text answer it, and
+// the bytes of the input that are left.
+#[tactic(auto, unfolding(crate::specs::Contract::served_of, crate::specs::Contract::answered))]
+pub fn serve_line<'a>(
     file: &[u8],
-    s: Session,
-    line: Splitter,
-    opens: &mut [u64],
-    reserves: &mut [u64],
-    helds: &mut [u64],
+    session: &mut Session,
+    sheet: &mut Sheet<'_>,
+    bytes: &'a [u8],
     out: &mut [u8],
-) -> Stepped
-    ensures { after_of result opens.new reserves.new helds.new out.new ≡ answered file.now (with_sheet s opens.old reserves.old helds.old) line out.old }
+) -> (usize, &'a [u8])
+    ensures after { after_of session.new.desk sheet.new out.new result.0 ≡ served_of file.now (with_sheet session.old.desk sheet.old) session.old.line bytes.now out.old }
+    ensures line { session.new.line ≡ fed_line session.old.line bytes.now }
+    ensures rest { result.1.now ≡ after_line session.old.line bytes.now }
+    ensures moved { 0 < length bytes.now → length result.1.now < length bytes.now }
+    ensures lists { SameLists sheet.old sheet.new }
 {
-    if !line.ended {
-        return Stepped {
-            session: s,
-            length: 0,
-        };
+    if bytes.is_empty() {
+        return (0, bytes);
     }
-    step(file, s, command(line), opens, reserves, helds, out)
+    let rest = session.line.feed_line(bytes);
+    if !session.line.ended {
+        return (0, rest);
+    }
+    let command = session.line.command();
+    (step(file, &mut session.desk, sheet, command, out), rest)
 }
 
-// Feeds bytes of the input from a place on, up to the end of a line, and answers the line as `step` does.
-pub fn serve_line(
-    file: &[u8],
-    s: Session,
-    line: Splitter,
-    bytes: &[u8],
-    from: usize,
-    opens: &mut [u64],
-    reserves: &mut [u64],
-    helds: &mut [u64],
-    out: &mut [u8],
-) -> Served
-    ensures { Serves file.now (with_sheet s opens.old reserves.old helds.old) line bytes.now from out.old result opens.new reserves.new helds.new out.new }
+// Answers the line that the end of the input ends, if one is begun. Gives how many bytes of text answer it.
+#[tactic(auto, unfolding(crate::specs::Contract::ended_of))]
+pub fn serve_end(file: &[u8], session: &mut Session, sheet: &mut Sheet<'_>, out: &mut [u8]) -> usize
+    ensures after { after_of session.new.desk sheet.new out.new result ≡ ended_of file.now (with_sheet session.old.desk sheet.old) session.old.line out.old }
+    ensures line { session.new.line ≡ session.old.line }
+    ensures lists { SameLists sheet.old sheet.new }
 {
-    if bytes.len() <= from {
-        return Served {
-            session: s,
-            splitter: line,
-            next: from,
-            length: 0,
-        };
+    if session.line.ended {
+        return 0;
     }
-    let fed = feed_line(line, bytes, from);
-    let splitter = fed.splitter;
-    let stepped = answer_line(file, s, splitter, opens, reserves, helds, out);
-    let session = stepped.session;
-    Served {
-        session,
-        splitter,
-        next: fed.next,
-        length: stepped.length,
-    }
-}
-
-// Answers the line that the end of the input ends, if one is begun.
-pub fn serve_end(
-    file: &[u8],
-    s: Session,
-    line: Splitter,
-    opens: &mut [u64],
-    reserves: &mut [u64],
-    helds: &mut [u64],
-    out: &mut [u8],
-) -> Stepped
-    ensures { after_of result opens.new reserves.new helds.new out.new ≡ ended_of file.now (with_sheet s opens.old reserves.old helds.old) line out.old }
-{
-    if line.ended {
-        return Stepped {
-            session: s,
-            length: 0,
-        };
-    }
-    step(file, s, command(line), opens, reserves, helds, out)
+    let command = session.line.command();
+    step(file, &mut session.desk, sheet, command, out)
 }

@@ -1,51 +1,57 @@
--- Soundness of the first n bookings of an array, by the streams that the code makes of them. Assumes nothing.
-use Rattle.std.specs.Prelude.{◌≡◌, refl, true, ◌&&◌, List, map, ℕ, ◌≤◌, length, take}
-use Rattle.std.proofs.Common.{sym, ap, ◌∙◌, arith}
-use Rattle.limits.specs.Bounds.{max_bookings, max_day}
+-- Soundness of a list of bookings, by the streams that the code makes of them. Assumes nothing.
+use Rattle.std.specs.Prelude.{◌≡◌, refl, true, ◌&&◌, List, map, ℕ, ◌≤◌}
+use Rattle.std.proofs.Common.{sym, ap, ◌∙◌}
+use Rattle.limits.specs.Bounds.{max_day}
 use Rattle.laws.specs.Tests.{left, right, all}
 use Rattle.loss.specs.Loss.{loss_at}
 use Rattle.films.specs.Questions.{verdict}
-use Rattle.films.specs.Catalogue.{catalogue_of}
+use Rattle.films.specs.Catalogue.{listed, catalogue_of}
+use Rattle.films.proofs.CatalogueLaws.{catalogue-listed}
+use Rattle.films.specs.declared.file.Entry.{Entry}
 use Rattle.model.specs.Soundness.{names_differ, sound_list}
 use Rattle.model.specs.declared.Booking.{Booking}
 use Rattle.model.specs.declared.Day.{Day}
-use Rattle.load.specs.Stream.{no_stream}
-use Rattle.load.specs.Streams.{stream_of, streams_of}
-use Rattle.load.specs.Lists.{take-filled, length-filled}
-use Rattle.load.specs.Basic.{basic_of, Playable, Within, EachOf}
+use Rattle.load.specs.Streams.{stream_of}
+use Rattle.load.specs.Basic.{basic_of, Playable, EachOf, Within}
+use Rattle.load.specs.BasicLaws.{each-playable, each_within}
 use Rattle.load.specs.declared.stream.Stream.{Stream}
 use Rattle.questions.specs.Given.{setting_at}
 use Rattle.questions.specs.Tied.{AllTied}
 use Rattle.questions.specs.Ties.{streams-tied}
 use Rattle.rounds.specs.Kept.{streams_kept}
-use Rattle.questions.specs.Sound.{sound-streams, each-playable}
+use Rattle.questions.specs.Sound.{sound-streams}
 
-module _ (f : List ℕ) (day : Day) (rows : List Booking) (n : ℕ) (xs : List Stream) (accepted : verdict f ≡ 0) (few : n ≤ max_bookings)
-    (there : n ≤ length rows) (made : xs ≡ streams_of (catalogue_of f) n rows) where
-  taken : take n xs ≡ map (stream_of (catalogue_of f)) (take n rows)
-  taken = ap (take n) made ∙ take-filled (stream_of (catalogue_of f)) rows max_bookings no_stream n there
+-- the streams that are made by the entries of an accepted file
+pub streams-made : (f : List ℕ) (bs : List Booking) (films made-by : List Entry) (xs : List Stream) → verdict f ≡ 0 → films ≡ listed f
+    → made-by ≡ films → xs ≡ map (stream_of made-by) bs → xs ≡ map (stream_of (catalogue_of f)) bs
+streams-made f bs films made-by xs a e k m = m ∙ ap (λ l. map (stream_of l) bs) (k ∙ e ∙ sym (catalogue-listed f a))
 
-  pub all-tied-taken : AllTied (setting_at f day) f (take n rows) (take n xs)
-  all-tied-taken = rw taken (streams-tied (setting_at f day) f refl accepted (take n rows))
+module _ (f : List ℕ) (day : Day) (bs : List Booking) (xs : List Stream) (accepted : verdict f ≡ 0)
+    (made : xs ≡ map (stream_of (catalogue_of f)) bs) where
+  pub all-tied-streams : AllTied (setting_at f day) f bs xs
+  all-tied-streams = rw made (streams-tied (setting_at f day) f refl accepted bs)
 
-  pub length-streams : length xs ≡ max_bookings
-  length-streams = ap length made ∙ length-filled (stream_of (catalogue_of f)) rows max_bookings no_stream n there few
+  pub list-sound : sound_list (setting_at f day) bs
+      ≡ names_differ bs
+      && (all (basic_of day.rounds) xs && streams_kept f loss_at day.rounds day.disk day.memory xs)
+  list-sound = sound-streams (setting_at f day) f refl bs xs all-tied-streams
 
-  pub list-sound : sound_list (setting_at f day) (take n rows)
-      ≡ names_differ (take n rows)
-      && (all (basic_of day.rounds) (take n xs) && streams_kept f loss_at day.rounds day.disk day.memory (take n xs))
-  list-sound =
-      sound-streams (setting_at f day) f refl (take n rows) (take n xs) all-tied-taken
+  pub streams-playable : day.rounds ≤ max_day → all (basic_of day.rounds) xs ≡ true → EachOf (Playable f) xs
+  streams-playable h e = rw made (each-playable day.rounds f bs h accepted (rw made at e))
 
-  pub streams-playable : day.rounds ≤ max_day → all (basic_of day.rounds) (take n xs) ≡ true
-      → EachOf (Playable f) n xs × EachOf (Within day.rounds) n xs
-  streams-playable h e =
-      each-playable (setting_at f day) f n day.rounds (take n rows) xs (omega (arith, length-streams)) h all-tied-taken e
+  pub streams-within : all (basic_of day.rounds) xs ≡ true → EachOf (Within day.rounds) xs
+  streams-within e = each_within day.rounds xs e
 
   -- of a sound list each stream is playable
-  pub sound-playable : day.rounds ≤ max_day → sound_list (setting_at f day) (take n rows) ≡ true
-      → EachOf (Playable f) n xs × EachOf (Within day.rounds) n xs
+  pub sound-playable : day.rounds ≤ max_day → sound_list (setting_at f day) bs ≡ true → EachOf (Playable f) xs
   sound-playable h e =
       streams-playable h
-      (left (all (basic_of day.rounds) (take n xs)) (streams_kept f loss_at day.rounds day.disk day.memory (take n xs))
-      (right (names_differ (take n rows)) (sym list-sound ∙ e)))
+      (left (all (basic_of day.rounds) xs) (streams_kept f loss_at day.rounds day.disk day.memory xs)
+      (right (names_differ bs) (sym list-sound ∙ e)))
+
+  -- and ends within the day
+  pub sound-within : sound_list (setting_at f day) bs ≡ true → EachOf (Within day.rounds) xs
+  sound-within e =
+      streams-within
+      (left (all (basic_of day.rounds) xs) (streams_kept f loss_at day.rounds day.disk day.memory xs)
+      (right (names_differ bs) (sym list-sound ∙ e)))

@@ -1,5 +1,5 @@
 -- The streams that the code makes of bookings by the catalogue of an accepted file are tied to them. Assumes nothing.
-use Rattle.std.specs.Prelude.{◌≡◌, refl, Bool, true, false, cond, ◌||◌, List, [], ◌∷◌, map, ℕ, eqb}
+use Rattle.std.specs.Prelude.{◌≡◌, refl, Bool, true, false, cond, ◌||◌, List, [], ◌∷◌, map, ℕ, Option, Some, None, eqb}
 use Rattle.std.proofs.Common.{sym, ◌∙◌, arith, le-leb}
 use Rattle.films.specs.Layout.{Film, in_file, sizes_of}
 use Rattle.films.specs.Questions.{verdict}
@@ -7,8 +7,7 @@ use Rattle.films.specs.Decode.{films_of}
 use Rattle.films.specs.Catalogue.{catalogue_of}
 use Rattle.films.specs.Lookup.{lookup_in, Says}
 use Rattle.films.proofs.LookupLaws.{lookup-says}
-use Rattle.films.specs.declared.types.Lookup.{Lookup}
-use Rattle.films.specs.declared.types.Lookup.TheVariants.{Found, Missing}
+use Rattle.films.specs.declared.lookup.Place.{Place}
 use Rattle.model.specs.Day.{Setting}
 use Rattle.model.specs.declared.Booking.{Booking}
 use Rattle.load.specs.Streams.{placed, stream_of}
@@ -24,18 +23,18 @@ missing-sizes (f ∷ fs) k e = go (eqb f.number k) e (missing-sizes fs k)
     go false u i = i u
 
 module _ (S : Setting) (f : List ℕ) (films : S.films ≡ films_of f) (accepted : verdict f ≡ 0) where
-  pub placed-tied : (b : Booking) (l : Lookup) → Says f b.film l → Tied S f b (placed b l)
-  placed-tied b (Found at n) s =
+  pub placed-tied : (b : Booking) (l : Option Place) → Says f b.film l → Tied S f b (placed b l)
+  placed-tied b (Some place) s =
       record {
         start = refl;
         prefetch = refl;
         reserve = refl;
         cabs = refl;
-        inside = rw films (s.inside ∙ sym (le-leb 1 n s.some));
+        inside = rw films (s.inside ∙ sym (le-leb 1 place.rounds s.some));
         are = rw films s.are;
         stored = s.stored;
       }
-  placed-tied b Missing s =
+  placed-tied b None s =
       record {
         start = refl;
         prefetch = refl;

@@ -2,6 +2,4 @@
 pub mod Reader
 pub mod ReaderLaws
 pub mod Rounds
-pub mod RoundLaws
 pub mod Summary
-pub mod SummaryLaws

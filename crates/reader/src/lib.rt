@@ -4,4 +4,3 @@
 pub mod cursor;
 pub mod rounds;
 pub mod summary;
-pub mod types;

@@ -1,62 +1,50 @@
 // A film's summary.
 ghost use Rattle.std.specs.Prelude.{◌≡◌, ◌≤◌};
 ghost use Rattle.laws.specs.Questions.{Answers};
+ghost use Rattle.limits.specs.Refusals.{number};
+ghost use Rattle.limits.specs.Numbered.{numbered};
 ghost use Rattle.films.specs.Layout.{sizes_of};
 ghost use Rattle.films.specs.Decode.{films_of};
-ghost use Rattle.films.specs.Sizes.{sizes, Stored};
+ghost use Rattle.films.specs.Sizes.{sizes};
 ghost use Rattle.reader.specs.Summary as spec;
 
-use crate::types::Summary;
-use films::catalogue::catalogue;
-use films::lookup::lookup;
-use films::types::Lookup;
-use films::words::size_at;
-use limits::refusals::NO_FILM;
+use films::file::FilmFile;
+use films::film::Sizes;
+use limits::refusals::Refusal;
 
-// The mean size of n rounds.
-fn mean(total: u64, n: u64) -> u64
-    requires { 1 ≤ n }
-    ensures { result ≡ spec.mean total n }
-{
-    total / n
+// A film's total bytes, largest size and mean size.
+#[derive(Clone, Copy, PartialEq, Eq, Debug)]
+pub struct Figures {
+    pub total: u64,
+    pub largest: u64,
+    pub mean: u64,
 }
 
-fn larger(a: u64, b: u64) -> u64
-    ensures { result ≡ spec.larger a b }
+// The figures of a film's sizes.
+fn figures_of(film: &Sizes<'_>) -> Figures
+    requires { 1 ≤ film.now.rounds }
+    ensures { result ≡ spec.figures_of (sizes film.now.file.now film.now.at film.now.rounds) }
 {
-    if a < b { b } else { a }
-}
-
-// The figures of the n sizes at an offset.
-fn figures(file: &[u8], at: usize, n: usize) -> Summary
-    requires { (Stored file.now at n) × (1 ≤ n) }
-    ensures { result ≡ spec.figures_of (sizes file.now at n) }
-{
-    let mut total: u64 = 0;
-    let mut largest: u64 = 0;
-    let mut i = 0;
-    while i < n {
-        let size = size_at(file, at + 4 * i);
+    let mut total = 0;
+    let mut largest = 0;
+    for i in 0..film.rounds {
+        let size = film.get(i);
         total += size;
-        largest = larger(largest, size);
-        i += 1;
+        largest = largest.max(size);
     }
-    Summary::Figures(total, largest, mean(total, n as u64))
+    Figures {
+        total,
+        largest,
+        mean: total / film.rounds as u64,
+    }
 }
 
 // The summary of a film, for any file and any number.
-pub fn summary(file: &[u8], film: u64) -> Summary
-    ensures answer { result ≡ spec.summary_of file.now film }
-    ensures said { Answers (spec.summary_questions file.now film) (spec.figures (sizes_of (films_of file.now) film)) (spec.summary_refusal result) (spec.summary_values result) }
+pub fn summary(file: &[u8], film: u64) -> Result<Figures, Refusal>
+    ensures answer { numbered result ≡ spec.summary_of file.now film }
+    ensures said { Answers (spec.summary_questions file.now film) (spec.figures (sizes_of (films_of file.now) film)) (number result) (spec.summary_values result) }
 {
-    let c = catalogue(file);
-    let refusal = c.verdict;
-    if refusal != 0 {
-        return Summary::Refused(refusal);
-    }
-    let found = lookup(c, film);
-    match found {
-        Lookup::Found(at, n) => figures(file, at, n),
-        Lookup::Missing => Summary::Refused(NO_FILM),
-    }
+    let file = FilmFile::read(file)?;
+    let sizes = file.sizes(film).ok_or(Refusal::NoFilm)?;
+    Ok(figures_of(&sizes))
 }

@@ -1,6 +1,6 @@
 -- What a replay finds between two entries: the lent day is the one that the plain day expects, so that 14, 15, 11 and 16 would pass and
 -- need not be asked. Assumes nothing.
-use Rattle.std.specs.Prelude.{◌≡◌, List, ℕ, max, length}
+use Rattle.std.specs.Prelude.{◌≡◌, Option, List, ℕ, max, length}
 use Rattle.std.proofs.Common.{ap, ◌∙◌, arith}
 use borrow.Author.Tests.{le-leb}
 use Rattle.laws.specs.Questions.{refusal}
@@ -15,8 +15,7 @@ use Rattle.model.specs.Steps.{Accepted}
 use Rattle.model.proofs.Steps.{seen}
 use Rattle.model.proofs.Runs.{good-first}
 use Rattle.model.specs.Claim.{InBetween}
-use Rattle.model.specs.declared.Booking.{Booking}
-use Rattle.model.specs.declared.Day.{Day}
+use Rattle.model.specs.declared.Desk.{Desk}
 use Rattle.questions.specs.Given.{setting_at}
 use Rattle.questions.specs.Numbers.{rounds_hold, day_holds, limits_hold, sheet_holds, sound_holds, standing_asks}
 use Rattle.replay.specs.PlainRun.{plain_entry}
@@ -34,7 +33,7 @@ pictured-between S d p =
     rw p.is (record { day = v.clock; limits = p.accepted.limits; sheet = v.sheet; list = v.sound })
 
 -- each entry keeps it so
-pub pictured-next : (S : Setting) (d : State) → Pictured S d → (e : Entry) → Pictured S (carried S d e).state
+pub pictured-next : (S : Setting) (d : State) → Pictured S d → (e : Option Entry) → Pictured S (carried S d e).state
 pictured-next S d p e =
     let o = plain_entry S p.lent.places (dec_fits S) p.plain e in
     let v = entry-step S p.lent (dec_fits S) p.accepted p.plain p.taken p.good e in
@@ -47,14 +46,14 @@ pictured-next S d p e =
       is = ap (λ (t : State). (carried S t e).state) p.is ∙ v.state;
     }
 
-module _ (f : List ℕ) (day : Day) (rows : List Booking) (places : ℕ) (o r h : List ℕ) (accepted : verdict f ≡ 0)
-    (b : InBetween (setting_at f day) (state_of day rows places o r h)) where
+module _ (f : List ℕ) (desk : Desk) (o r h : List ℕ) (accepted : verdict f ≡ 0)
+    (b : InBetween (setting_at f desk.day) (state_of desk.day desk.rows desk.places o r h)) where
   -- no question before booking's and drop's own says no
-  pub between-asks : refusal (standing_asks f day rows places (length o) (length r) (length h)) ≡ 0
+  pub between-asks : refusal (standing_asks f desk (length o) (length r) (length h)) ≡ 0
   unfolding standing_asks day_holds rounds_hold limits_hold sheet_holds sound_holds day_in_range rounds_in_range limits_in_range sheet_long sound
   between-asks = rw (b.day, b.limits, b.sheet, b.list, accepted)
 
   -- nor before play's, which is lent no sheet
-  pub between-plays : refusal (standing_asks f day rows places day.rounds day.rounds day.rounds) ≡ 0
+  pub between-plays : refusal (standing_asks f desk desk.day.rounds desk.day.rounds desk.day.rounds) ≡ 0
   unfolding standing_asks day_holds rounds_hold limits_hold sheet_holds sound_holds day_in_range rounds_in_range limits_in_range sheet_long sound
-  between-plays = rw (b.day, b.limits, le-leb day.rounds day.rounds (omega arith), b.list, accepted)
+  between-plays = rw (b.day, b.limits, le-leb desk.day.rounds desk.day.rounds (omega arith), b.list, accepted)

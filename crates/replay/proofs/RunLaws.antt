@@ -1,6 +1,6 @@
 -- The entries by the model's calls are the plain day's: by induction over `step`, which goes from picture to picture of the lent
 -- day. Assumes what `Accepted` says: an opening that was not refused, and a loss that rises.
-use Rattle.std.specs.Prelude.{◌≡◌, refl, Bool, true, false, cond, List, [], ◌∷◌, ◌++◌, ℕ, zero, suc, ◌-◌, ◌≤◌, max, length, take, drop, replicate, leb}
+use Rattle.std.specs.Prelude.{◌≡◌, refl, Bool, true, false, cond, Option, Some, None, List, [], ◌∷◌, ◌++◌, ℕ, zero, suc, ◌-◌, ◌≤◌, max, length, take, drop, replicate, leb}
 use Rattle.std.proofs.Common.{sym, ap, ap₂, ◌∙◌, subst, arith}
 use Rattle.std.proofs.lemmas.List.{length-replicate}
 use Rattle.std.proofs.Math.Seq.{take-append_seam}
@@ -26,7 +26,7 @@ use Rattle.replay.specs.PlainRun.{calls_of, plain_entry, entry_log, plain_log, e
 use Rattle.replay.specs.Contract.{result_after}
 use Rattle.replay.specs.DeskRun.{DeskRun, blank_report, outcome_words, after_run, no_run, carried, desk_run, run_result}
 use Rattle.replay.specs.declared.journal.Entry.{Entry}
-use Rattle.replay.specs.declared.journal.Entry.TheVariants.{Book, Drop, Play, Unknown}
+use Rattle.replay.specs.declared.journal.Entry.TheVariants.{Book, Drop, Play}
 
 module _ (S : Setting) (lent : State) (fits : (bs : List Booking) → Dec (Fits S bs)) (accepted : Accepted S lent) where
   -- ---- one entry
@@ -38,16 +38,16 @@ module _ (S : Setting) (lent : State) (fits : (bs : List Booking) → Dec (Fits 
       let x : max m (length s.standing) ≡ m = omega (arith, g.most) in
       record { answer = refl; report = refl; state = ap (expected S lent s) (sym x); good = rw x g }
 
-  pub entry-step : (s : PlainDay) (m : ℕ) → Good S lent fits accepted s m → (e : Entry)
+  pub entry-step : (s : PlainDay) (m : ℕ) → Good S lent fits accepted s m → (e : Option Entry)
       → Matches S lent fits accepted (carried S (expected S lent s m) e) (plain_entry S lent.places fits s e) (blank_report e) m
-  entry-step s m g (Book q) = step S lent fits accepted s m g (Calls.booking q)
-  entry-step s m g (Drop name) = step S lent fits accepted s m g (Calls.dropping name)
-  entry-step s m g (Play room) =
+  entry-step s m g (Some (Book q)) = step S lent fits accepted s m g (Calls.booking q)
+  entry-step s m g (Some (Drop name)) = step S lent fits accepted s m g (Calls.dropping name)
+  entry-step s m g (Some (Play room)) =
       let v = step S lent fits accepted s m g (Calls.playing (replicate room no_line)) in
       subst
-      (λ (n : ℕ). Matches S lent fits accepted (carried S (expected S lent s m) (Play room)) (P.plain_call S lent.places fits s (P.playing n)) (replicate room no_line) m)
+      (λ (n : ℕ). Matches S lent fits accepted (carried S (expected S lent s m) (Some (Play room))) (P.plain_call S lent.places fits s (P.playing n)) (replicate room no_line) m)
       (length-replicate room no_line) v
-  entry-step s m g Unknown = kept s m command_form g
+  entry-step s m g None = kept s m command_form g
 
   -- an answer says how many lines there are
   book-lines : (s : PlainDay) (q : Request) (n : ℕ) (o : Found)
@@ -66,12 +66,12 @@ module _ (S : Setting) (lent : State) (fits : (bs : List Booking) → Dec (Fits 
   play-lines s zero = refl
   play-lines s (suc k) = refl
 
-  entry-lines : (s : PlainDay) (e : Entry)
+  entry-lines : (s : PlainDay) (e : Option Entry)
       → lines_in (plain_entry S lent.places fits s e).answer ≡ length (plain_entry S lent.places fits s e).lines
-  entry-lines s (Book q) = book-lines s q (plain_number S lent.places fits s (P.booking q)) (plain_start S lent.places fits s q)
-  entry-lines s (Drop name) = drop-lines s name (plain_number S lent.places fits s (P.dropping name))
-  entry-lines s (Play room) = play-lines s (plain_number S lent.places fits s (P.playing room))
-  entry-lines s Unknown = refl
+  entry-lines s (Some (Book q)) = book-lines s q (plain_number S lent.places fits s (P.booking q)) (plain_start S lent.places fits s q)
+  entry-lines s (Some (Drop name)) = drop-lines s name (plain_number S lent.places fits s (P.dropping name))
+  entry-lines s (Some (Play room)) = play-lines s (plain_number S lent.places fits s (P.playing room))
+  entry-lines s None = refl
 
   -- the same words
   matched-words : (o : Outcome) (e : PlainOutcome) (old : List Line) (m : ℕ) → Matches S lent fits accepted o e old m
@@ -80,39 +80,39 @@ module _ (S : Setting) (lent : State) (fits : (bs : List Booking) → Dec (Fits 
       ap₂ logged_words v.answer
       (ap₂ take (ap lines_in v.answer ∙ k) v.report ∙ take-append_seam e.lines (drop (length e.lines) old))
 
-  entry-words : (s : PlainDay) (m : ℕ) → Good S lent fits accepted s m → (e : Entry)
+  entry-words : (s : PlainDay) (m : ℕ) → Good S lent fits accepted s m → (e : Option Entry)
       → outcome_words (carried S (expected S lent s m) e) ≡ entry_log S lent.places fits s e
   entry-words s m g e =
       matched-words (carried S (expected S lent s m) e) (plain_entry S lent.places fits s e) (blank_report e) m (entry-step s m g e) (entry-lines s e)
 
   -- ---- a list of entries
 
-  after-entry : (s : PlainDay) (e : Entry) (es : List Entry)
+  after-entry : (s : PlainDay) (e : Option Entry) (es : List (Option Entry))
       → plain_after S lent.places fits s (calls_of (e ∷ es)) ≡ plain_after S lent.places fits (plain_entry S lent.places fits s e).after (calls_of es)
-  after-entry s (Book q) es = refl
-  after-entry s (Drop name) es = refl
-  after-entry s (Play room) es = refl
-  after-entry s Unknown es = refl
+  after-entry s (Some (Book q)) es = refl
+  after-entry s (Some (Drop name)) es = refl
+  after-entry s (Some (Play room)) es = refl
+  after-entry s None es = refl
 
   ever-least : (s : PlainDay) (cs : List Arguments) → length s.standing ≤ ever_taken S lent.places fits s cs
   ever-least s [] = omega arith
   ever-least s (c ∷ cs) = omega arith
 
-  taken-entry : (s : PlainDay) (m : ℕ) → length s.standing ≤ m → (e : Entry) (es : List Entry)
+  taken-entry : (s : PlainDay) (m : ℕ) → length s.standing ≤ m → (e : Option Entry) (es : List (Option Entry))
       → max (max m (length (plain_entry S lent.places fits s e).after.standing)) (ever_taken S lent.places fits (plain_entry S lent.places fits s e).after (calls_of es))
       ≡ max m (ever_taken S lent.places fits s (calls_of (e ∷ es)))
   taken-entry s m h e es = go e (ever-least (plain_entry S lent.places fits s e).after (calls_of es))
     where
-      go : (e : Entry) → length (plain_entry S lent.places fits s e).after.standing ≤ ever_taken S lent.places fits (plain_entry S lent.places fits s e).after (calls_of es)
+      go : (e : Option Entry) → length (plain_entry S lent.places fits s e).after.standing ≤ ever_taken S lent.places fits (plain_entry S lent.places fits s e).after (calls_of es)
           → max (max m (length (plain_entry S lent.places fits s e).after.standing)) (ever_taken S lent.places fits (plain_entry S lent.places fits s e).after (calls_of es))
           ≡ max m (ever_taken S lent.places fits s (calls_of (e ∷ es)))
-      go (Book q) u = omega arith
-      go (Drop name) u = omega arith
-      go (Play room) u = omega arith
-      go Unknown u = omega arith
+      go (Some (Book q)) u = omega arith
+      go (Some (Drop name)) u = omega arith
+      go (Some (Play room)) u = omega arith
+      go None u = omega arith
 
   -- a run r is the plain day's, from s on with at most m ever standing before, of the entries es
-  record Same (s : PlainDay) (m : ℕ) (es : List Entry) (r : DeskRun) : Type 0 where
+  record Same (s : PlainDay) (m : ℕ) (es : List (Option Entry)) (r : DeskRun) : Type 0 where
     entries : r.entries ≡ length es
     words : r.words ≡ plain_log S lent.places fits s es
     state : r.state ≡ expected S lent (plain_after S lent.places fits s (calls_of es)) (max m (ever_taken S lent.places fits s (calls_of es)))
@@ -122,7 +122,7 @@ module _ (S : Setting) (lent : State) (fits : (bs : List Booking) → Dec (Fits 
       let x : m ≡ max m (length s.standing) = omega (arith, g.most) in
       record { entries = refl; words = refl; state = ap (expected S lent s) x }
 
-  same-run : (es : List Entry) (s : PlainDay) (m room : ℕ) → Good S lent fits accepted s m
+  same-run : (es : List (Option Entry)) (s : PlainDay) (m room : ℕ) → Good S lent fits accepted s m
       → Same s m (take (entries_done S lent.places fits s room es) es) (desk_run S (expected S lent s m) room es)
   same-run [] s m room g = same_none s m g
   same-run (e ∷ es) s m room g =
@@ -152,7 +152,7 @@ module _ (S : Setting) (lent : State) (fits : (bs : List Booking) → Dec (Fits 
       pick F t f false = f
 
   -- from the opened day on
-  pub run-result : (room : ℕ) (es : List Entry) → run_result S (desk_run S (expected S lent at_first 0) room es)
+  pub run-result : (room : ℕ) (es : List (Option Entry)) → run_result S (desk_run S (expected S lent at_first 0) room es)
       ≡ result_after S lent fits (take (entries_done S lent.places fits at_first room es) es)
   run-result room es =
       let r = same-run es at_first 0 room (good-first S lent fits accepted) in

@@ -1,37 +1,36 @@
 -- One entry: what a call leaves and logs is what `Steps` says. Assumes nothing.
-use Rattle.std.specs.Prelude.{◌≡◌, true, false, ℕ, zero, suc, ◌+◌, ◌-◌, ◌*◌, ◌/◌, ◌≤◌, ◌<◌, take, drop, eqb}
-use Rattle.std.proofs.Math.Path.{refl, ap, subst}
+use Rattle.std.specs.Prelude.{◌≡◌, true, false, Option, Some, ℕ, zero, suc, ◌+◌, ◌-◌, ◌*◌, ◌≤◌, ◌<◌, take, drop, eqb}
+use Rattle.std.proofs.Math.Path.{refl, ap}
 use Rattle.std.proofs.Common.{sym, ap₂, ◌∙◌, true≢false, arith, length-append, ne_eqb}
-use mathlib.Core.List.{List, []}
+use mathlib.Core.List.{List}
 use Rattle.std.proofs.Math.ListN.{length, replicate}
 use Rattle.std.proofs.lemmas.List.{length-replicate}
 use Rattle.std.proofs.Math.Seq.{take-append_seam}
 use Rattle.laws.specs.Questions.{refusal}
-use Rattle.limits.specs.Bounds.{max_bookings}
 use Rattle.model.specs.Day.{Setting, State}
 use Rattle.model.specs.Fit.{Found, nowhere, at}
-use Rattle.model.specs.Calls.{Outcome, refused, standing, book_questions, start_of, book_with, book_call, drop_questions, drop_with, drop_call, play_questions, play_with, play_call}
-use Rattle.model.specs.Code.{state_of, day_of}
+use Rattle.model.specs.Calls.{Outcome, refused, book_questions, start_of, book_with, book_call, drop_questions, drop_with, drop_call, play_questions, play_with, play_call}
+use Rattle.model.specs.Code.{state_in, day_of}
 use Rattle.model.proofs.PlacesLaws.{same-state}
-use Rattle.model.specs.declared.Booking.{Booking}
 use Rattle.model.specs.declared.Request.{Request}
 use Rattle.model.specs.declared.Day.{Day}
+use Rattle.model.specs.declared.Desk.{Desk}
+use Rattle.model.specs.declared.Sheet.{Sheet}
 use Rattle.model.specs.declared.Line.{Line}
 use Rattle.model.specs.declared.Answer.{Answer}
 use Rattle.model.specs.declared.Answer.TheVariants.{Refused, Opened, Booked, Dropped, Played}
 use Rattle.questions.specs.Given.{setting_at}
-use Rattle.booking.specs.Contract as Book
+use Rattle.booking.specs.Contract.{Leaves}
 use Rattle.dropping.specs.Contract.{Drops}
-use Rattle.dropping.specs.declared.DropOutcome.{DropOutcome}
+use Rattle.playing.specs.Contract.{Plays}
 use Rattle.playing.specs.Lines.{no_line}
-use Rattle.playing.specs.Contract.{lines_in, lines_for, Plays}
-use Rattle.playing.specs.declared.Played as Play
+use Rattle.playing.specs.Contract.{lines_in}
 use Rattle.replay.specs.Log.{answer_words, lines_words, logged_words, Wrote}
 use Rattle.replay.proofs.Writing.{wrote_then, lines-length}
-use Rattle.replay.specs.DeskRun.{blank_report, refusal_of, outcome_words, carried, Took, Kept, Steps, Refuses}
+use Rattle.replay.specs.DeskRun.{blank_report, outcome_words, carried, Took, Kept, Steps}
 use Rattle.replay.specs.declared.journal.Entry.{Entry}
 use Rattle.replay.specs.declared.journal.Entry.TheVariants as E
-use Rattle.replay.specs.declared.step.Stepped.{Stepped}
+use Rattle.replay.specs.declared.log.Log.{Log}
 
 -- an answer has three words
 pub answer-length : (a : Answer) → length (answer_words a) ≡ 3
@@ -41,53 +40,42 @@ answer-length (Booked s) = refl
 answer-length Dropped = refl
 answer-length (Played n k) = refl
 
-pub logged-length : (a : Answer) (ls : List Line) → length (logged_words a ls) ≡ 3 + 4 * length ls
+logged-length : (a : Answer) (ls : List Line) → length (logged_words a ls) ≡ 3 + 4 * length ls
 logged-length a ls = omega (arith, length-append (answer_words a) (lines_words ls), answer-length a, lines-length ls)
+
+-- the state that a call leaves, by its parts
+state-left : (S : Setting) (out : Outcome) (a : Answer) (desk : Desk) (sheet : Sheet) → Leaves S out a desk sheet → desk.places ≡ out.state.places
+    → state_in desk sheet ≡ out.state
+state-left S out a desk sheet b places =
+    same-state (ap (λ (x : Day). x.now) b.day) (ap (λ (x : Day). x.count) b.day) places b.rows b.opens b.reserves b.helds
 
 -- ---- by whether the entry was done
 
-module _ (S : Setting) (d : State) (e : Entry) (old : List ℕ) (at : ℕ) (r : Stepped) (log' opens' reserves' helds' : List ℕ) where
-  pub steps-done : r.done ≡ true → Took S d e old at r log' opens' reserves' helds' → Steps S d e old at r log' opens' reserves' helds'
-  steps-done t k = record { took = λ u. k; kept = λ u. absurd (true≢false (sym t ∙ u)) }
+module _ (S : Setting) (d : State) (e : Option Entry) (old : Log) (desk' : Desk) (sheet' : Sheet) (log' : Log) where
+  pub steps-done : Took S d e old desk' sheet' log' → Steps S d e old true desk' sheet' log'
+  steps-done k = record { took = λ u. k; kept = λ u. absurd (true≢false u) }
 
-  pub steps-full : r.done ≡ false → Kept S d e old at r log' opens' reserves' helds' → Steps S d e old at r log' opens' reserves' helds'
-  steps-full f k = record { took = λ u. absurd (true≢false (sym u ∙ f)); kept = λ u. k }
-
-  -- with fewer than three places left no entry is done
-  pub no_room : length old - at < 3 → r ≡ record { done = false; next = at; day = day_of S d; rows = d.records }
-      → log' ≡ old → opens' ≡ d.opens → reserves' ≡ d.reserves → helds' ≡ d.helds
-      → Steps S d e old at r log' opens' reserves' helds'
-  no_room h is l o v k =
-      let out = carried S d e in
-      let n = logged-length out.answer (take (lines_in out.answer) out.report) in
-      let day = ap (λ (x : Stepped). x.day) is in
-      steps-full (ap (λ (x : Stepped). x.done) is)
-      (record {
-        full = omega arith;
-        log = l;
-        next = ap (λ (x : Stepped). x.next) is;
-        day = day;
-        state = same-state (ap (λ (x : Day). x.now) day) (ap (λ (x : Day). x.count) day) refl (ap (λ (x : Stepped). x.rows) is) o v k;
-      })
+  pub steps-full : Kept S d e old desk' sheet' log' → Steps S d e old false desk' sheet' log'
+  steps-full k = record { took = λ u. absurd (true≢false (sym u)); kept = λ u. k }
 
   -- a call with no report: three words
-  pub called-steps : (a : Answer) → at + 3 ≤ length old → outcome_words (carried S d e) ≡ answer_words (carried S d e).answer
-      → (carried S d e).state.places ≡ d.places → a ≡ (carried S d e).answer → r.done ≡ true → r.day ≡ day_of S (carried S d e).state
-      → r.rows ≡ (carried S d e).state.records → opens' ≡ (carried S d e).state.opens → reserves' ≡ (carried S d e).state.reserves
-      → helds' ≡ (carried S d e).state.helds → Wrote old at (answer_words a) log' r.next
-      → Steps S d e old at r log' opens' reserves' helds'
-  called-steps a room ws places is t day rows o v h w =
-      let out = carried S d e in
-      let n = answer-length out.answer in
-      steps-done t
-      (record {
-        fit = rw ws (omega arith);
-        wrote = rw (ws, ← is) w;
-        day = day;
-        state = same-state (ap (λ (x : Day). x.now) day) (ap (λ (x : Day). x.count) day) (sym places) rows o v h;
-      })
+  pub called-steps : (a : Answer) → old.at + 3 ≤ length old.words.now → outcome_words (carried S d e) ≡ answer_words (carried S d e).answer
+      → a ≡ (carried S d e).answer → desk'.day ≡ day_of S (carried S d e).state → state_in desk' sheet' ≡ (carried S d e).state
+      → Wrote old.words.now old.at (answer_words a) log'.words.now log'.at
+      → Steps S d e old true desk' sheet' log'
+  called-steps a room ws is day state w =
+      let n = answer-length (carried S d e).answer in
+      steps-done (record { fit = rw ws (omega arith); wrote = rw (ws, ← is) w; day = day; state = state })
 
--- ---- booking and drop write no report, and the list keeps its length
+-- with fewer than three places left no entry is done
+pub no_room : (S : Setting) (desk : Desk) (sheet : Sheet) (e : Option Entry) (old : Log) → length old.words.now - old.at < 3
+    → day_of S (state_in desk sheet) ≡ desk.day → Steps S (state_in desk sheet) e old false desk sheet old
+no_room S desk sheet e old h day =
+    let out = carried S (state_in desk sheet) e in
+    let n = logged-length out.answer (take (lines_in out.answer) out.report) in
+    steps-full S (state_in desk sheet) e old desk sheet old (record { full = omega arith; log = refl; at = refl; day = sym day; state = refl })
+
+-- ---- booking and drop write no report, and the list keeps its places
 
 module _ (S : Setting) (d : State) where
   book-words : (q : Request) (n : ℕ) (f : Found) → outcome_words (book_with S d q n f) ≡ answer_words (book_with S d q n f).answer
@@ -108,23 +96,24 @@ module _ (S : Setting) (d : State) where
   drop-places name zero = refl
   drop-places name (suc k) = refl
 
-  pub booked-steps : (q : Request) (old : List ℕ) (p : ℕ) (r : Stepped) (log' o v h : List ℕ) (a : Answer) → p + 3 ≤ length old
-      → r.done ≡ true → Book.Leaves S (book_call S d q) a r.day r.rows o v h → Wrote old p (answer_words a) log' r.next
-      → Steps S d (E.Book q) old p r log' o v h
-  unfolding book_call
-  booked-steps q old p r log' o v h a room t b w =
-      let n = refusal (book_questions S d q) in
-      called-steps S d (E.Book q) old p r log' o v h a room (book-words q n (start_of S d q)) (book-places q n (start_of S d q)) b.answer t b.day b.rows
-      b.opens b.reserves b.helds w
+  module _ (old : Log) (desk' : Desk) (sheet' : Sheet) (log' : Log) (a : Answer) (room : old.at + 3 ≤ length old.words.now)
+      (w : Wrote old.words.now old.at (answer_words a) log'.words.now log'.at) where
+    pub booked-steps : (q : Request) → Leaves S (book_call S d q) a desk' sheet' → desk'.places ≡ d.places
+        → Steps S d (Some (E.Book q)) old true desk' sheet' log'
+    unfolding book_call
+    booked-steps q b places =
+        let n = refusal (book_questions S d q) in
+        called-steps S d (Some (E.Book q)) old desk' sheet' log' a room (book-words q n (start_of S d q)) b.answer b.day
+        (state-left S (book_call S d q) a desk' sheet' b (places ∙ sym (book-places q n (start_of S d q)))) w
 
-  pub dropped-steps : (name : ℕ) (old : List ℕ) (p : ℕ) (r : Stepped) (log' o v h : List ℕ) (x : DropOutcome) → p + 3 ≤ length old
-      → r.done ≡ true → r.day ≡ x.day → r.rows ≡ x.rows → Drops S d name x o v h → Wrote old p (answer_words x.answer) log' r.next
-      → Steps S d (E.Drop name) old p r log' o v h
-  unfolding drop_call
-  dropped-steps name old p r log' o v h x room t y z b w =
-      let n = refusal (drop_questions S d name) in
-      called-steps S d (E.Drop name) old p r log' o v h x.answer room (drop-words name n) (drop-places name n) b.answer t (y ∙ b.day) (z ∙ b.rows)
-      b.opens b.reserves b.helds w
+    pub dropped-steps : (name : ℕ) → Drops S d name a desk' sheet' → Steps S d (Some (E.Drop name)) old true desk' sheet' log'
+    unfolding drop_call
+    dropped-steps name b =
+        let n = refusal (drop_questions S d name) in
+        let left : Leaves S (drop_call S d name) a desk' sheet' =
+        record { answer = b.answer; day = b.day; rows = b.rows; opens = b.opens; reserves = b.reserves; helds = b.helds } in
+        called-steps S d (Some (E.Drop name)) old desk' sheet' log' a room (drop-words name n) b.answer b.day
+        (state-left S (drop_call S d name) a desk' sheet' left (b.places ∙ sym (drop-places name n))) w
 
 -- ---- an entry that is refused before its call
 
@@ -144,112 +133,84 @@ module _ (S : Setting) (d : State) (k : ℕ) (refuses : S.verdict ≡ suc k) whe
   unfolding play_questions
   play-file room = rw some refuses
 
-  file-carried : (e : Entry) → carried S d e ≡ refused S d (blank_report e) (refusal_of (suc k) e)
+  file-carried : (e : Entry) → carried S d (Some e) ≡ refused S d (blank_report (Some e)) (suc k)
   unfolding book_call drop_call play_call
   file-carried (E.Book q) = ap (λ (n : ℕ). book_with S d q n (start_of S d q)) (book-file q)
   file-carried (E.Drop name) = ap (drop_with S d name) (drop-file name)
   file-carried (E.Play room) = ap (play_with S d (replicate room no_line)) (play-file (length (replicate room no_line)))
-  file-carried E.Unknown = refl
 
-pub refused-steps : (S : Setting) (d : State) (e : Entry) (n : ℕ) (report : List Line) → carried S d e ≡ refused S d report n
-    → (old : List ℕ) (p : ℕ) (r : Stepped) (log' : List ℕ) → p + 3 ≤ length old → Refuses n (day_of S d) d.records old p r log'
-    → Steps S d e old p r log' d.opens d.reserves d.helds
-refused-steps S d e n report is old p r log' room w =
-    let same : (carried S d e).state ≡ d = ap (λ (o : Outcome). o.state) is in
-    called-steps S d e old p r log' d.opens d.reserves d.helds (Refused n) room
-    (ap outcome_words is ∙ sym (ap (λ (o : Outcome). answer_words o.answer) is))
-    (ap (λ (t : State). t.places) same) (sym (ap (λ (o : Outcome). o.answer) is)) w.done (w.day ∙ ap (day_of S) (sym same))
-    (w.rows ∙ ap (λ (t : State). t.records) (sym same)) (ap (λ (t : State). t.opens) (sym same)) (ap (λ (t : State). t.reserves) (sym same))
-    (ap (λ (t : State). t.helds) (sym same)) w.wrote
+module _ (S : Setting) (desk : Desk) (sheet : Sheet) (day : day_of S (state_in desk sheet) ≡ desk.day) (old log' : Log)
+    (room : old.at + 3 ≤ length old.words.now) where
+  pub refused-steps : (e : Option Entry) (n : ℕ) (report : List Line) → carried S (state_in desk sheet) e ≡ refused S (state_in desk sheet) report n
+      → Wrote old.words.now old.at (answer_words (Refused n)) log'.words.now log'.at
+      → Steps S (state_in desk sheet) e old true desk sheet log'
+  refused-steps e n report is w =
+      let same : (carried S (state_in desk sheet) e).state ≡ state_in desk sheet = ap (λ (o : Outcome). o.state) is in
+      called-steps S (state_in desk sheet) e old desk sheet log' (Refused n) room
+      (ap outcome_words is ∙ sym (ap (λ (o : Outcome). answer_words o.answer) is))
+      (sym (ap (λ (o : Outcome). o.answer) is)) (sym day ∙ ap (day_of S) (sym same)) (sym same) w
 
--- with the number of the film file
-pub file-steps : (S : Setting) (d : State) (e : Entry) (v n : ℕ) → S.verdict ≡ v → (v ≡ 0 → ⊥) → n ≡ refusal_of v e
-    → (old : List ℕ) (p : ℕ) (r : Stepped) (log' : List ℕ) → p + 3 ≤ length old → Refuses n (day_of S d) d.records old p r log'
-    → Steps S d e old p r log' d.opens d.reserves d.helds
-file-steps S d e zero n is some m old p r log' room w = absurd (some refl)
-file-steps S d e (suc k) n is some m old p r log' room w =
-    refused-steps S d e n (blank_report e) (file-carried S d k is e ∙ ap (refused S d (blank_report e)) (sym m)) old p r log' room w
+  -- with the number of the film file
+  pub file-steps : (e : Entry) (n : ℕ) → S.verdict ≡ n → (n ≡ 0 → ⊥) → Wrote old.words.now old.at (answer_words (Refused n)) log'.words.now log'.at
+      → Steps S (state_in desk sheet) (Some e) old true desk sheet log'
+  file-steps e zero is nonzero w = absurd (nonzero refl)
+  file-steps e (suc k) is nonzero w = refused-steps (Some e) (suc k) (blank_report (Some e)) (file-carried S (state_in desk sheet) k is e) w
 
 -- ---- a played round
 
--- an answer says how many lines there are
-play-count : (S : Setting) (d : State) (report : List Line) (n : ℕ)
-    → lines_in (play_with S d report n).answer ≡ length (lines_for S d.now (standing d) (play_with S d report n).answer)
-play-count S d report zero = refl
-play-count S d report (suc k) = refl
+module _ (f : List ℕ) (desk : Desk) (room : ℕ) (a : Answer) (lines : List Line) (after : Desk) (plays : Plays f desk room a lines after) (sheet : Sheet) where
+  abbrev S : Setting
+  S = setting_at f desk.day
 
-module _ (f : List ℕ) (day : Day) (rows : List Booking) (places room : ℕ) (x : Play.Played) (plays : Plays f day rows places room x) where
-  -- the lines that the array has
-  abbrev ran : List Line
-  ran = lines_for (setting_at f day) day.now (take day.count rows) x.answer
+  abbrev lent : State
+  lent = state_in desk sheet
 
-  ran-count : lines_in x.answer ≡ length ran
-  unfolding play_call
-  ran-count =
-      let S = setting_at f day in
-      let d = state_of day rows places [] [] [] in
-      let blank = replicate room no_line in
-      let a = plays.answer [] [] [] blank (length-replicate room no_line) in
-      subst (λ (y : Answer). lines_in y ≡ length (lines_for S day.now (take day.count rows) y)) a
-      (play-count S d blank (refusal (play_questions S d (length blank))))
+  abbrev blank : List Line
+  blank = replicate room no_line
 
-  ran-lines : take (lines_in x.answer) x.lines ≡ ran
-  ran-lines =
-      ap₂ take ran-count plays.lines ∙ take-append_seam ran (replicate (max_bookings - length ran) no_line)
+  same-answer : (play_call S lent blank).answer ≡ a
+  same-answer = plays.answer sheet.opens.now sheet.reserves.now sheet.helds.now blank (length-replicate room no_line)
 
-  pub lines-there : lines_in x.answer ≤ length x.lines
-  lines-there =
-      omega (arith, ran-count, ap length plays.lines, length-append ran (replicate (max_bookings - length ran) no_line), length-replicate (max_bookings - length ran) no_line)
+  play-words : outcome_words (carried S lent (Some (E.Play room))) ≡ logged_words a lines
+  play-words =
+      ap₂ logged_words same-answer
+      (ap₂ take (ap lines_in same-answer ∙ sym plays.count) (plays.report sheet.opens.now sheet.reserves.now sheet.helds.now blank (length-replicate room no_line))
+      ∙ take-append_seam lines (drop (length lines) blank))
 
-  module _ (opens reserves helds : List ℕ) where
-    abbrev as_lent : State
-    as_lent = state_of day rows places opens reserves helds
+  play-length : length (outcome_words (carried S lent (Some (E.Play room)))) ≡ 3 + 4 * length lines
+  play-length = ap length play-words ∙ logged-length a lines
 
-    play-words : outcome_words (carried (setting_at f day) as_lent (E.Play room)) ≡ logged_words x.answer (take (lines_in x.answer) x.lines)
-    play-words =
-        let blank = replicate room no_line in
+  module _ (old log' : Log) where
+    -- its words do not fit, and the day is put back
+    pub play-full : (desk' : Desk) → length old.words.now - old.at < 3 + 4 * length lines → desk'.day ≡ desk.day → desk'.rows ≡ after.rows
+        → desk'.places ≡ after.places → log'.words.now ≡ old.words.now → log'.at ≡ old.at
+        → Steps S lent (Some (E.Play room)) old false desk' sheet log'
+    play-full desk' less day rows places words place =
+        steps-full S lent (Some (E.Play room)) old desk' sheet log'
+        (record {
+          full = omega (arith, play-length);
+          log = words;
+          at = place;
+          day = day;
+          state = same-state (ap (λ (u : Day). u.now) day) (ap (λ (u : Day). u.count) day) (places ∙ plays.places) (rows ∙ plays.rows) refl refl refl;
+        })
+
+    -- they do
+    pub play-done : old.at + 3 + 4 * length lines ≤ length old.words.now → (mid : Log)
+        → Wrote old.words.now old.at (answer_words a) mid.words.now mid.at
+        → Wrote mid.words.now mid.at (lines_words lines) log'.words.now log'.at
+        → Steps S lent (Some (E.Play room)) old true after sheet log'
+    play-done fits mid v w =
         let e = length-replicate room no_line in
-        let a = plays.answer opens reserves helds blank e in
-        let front = take (lines_in x.answer) x.lines in
-        let n : lines_in x.answer ≡ length front = ran-count ∙ ap length (sym ran-lines) in
-        ap₂ logged_words a
-        (ap₂ take (ap lines_in a ∙ n) (plays.report opens reserves helds blank e) ∙ take-append_seam front (drop (length front) blank))
-
-    play-length : length (outcome_words (carried (setting_at f day) as_lent (E.Play room))) ≡ 3 + 4 * lines_in x.answer
-    play-length =
-        let front = take (lines_in x.answer) x.lines in
-        let n : length front ≡ lines_in x.answer = ap length ran-lines ∙ sym ran-count in
-        ap length play-words ∙ logged-length x.answer front ∙ ap (λ (k : ℕ). 3 + 4 * k) n
-
-    module _ (old : List ℕ) (p : ℕ) (there : p + 3 ≤ length old) (r : Stepped) (log' : List ℕ) where
-      -- its words do not fit
-      pub play-full : (length old - p - 3) / 4 < lines_in x.answer → r.done ≡ false → r.next ≡ p → r.day ≡ day → r.rows ≡ rows → log' ≡ old
-          → Steps (setting_at f day) as_lent (E.Play room) old p r log' opens reserves helds
-      play-full less t n y z l =
-          steps-full (setting_at f day) as_lent (E.Play room) old p r log' opens reserves helds t
-          (record {
-            full = omega (arith, play-length);
-            log = l;
-            next = n;
-            day = y;
-            state = same-state (ap (λ (u : Day). u.now) y) (ap (λ (u : Day). u.count) y) refl z refl refl refl;
-          })
-
-      -- they do
-      pub play-done : lines_in x.answer ≤ (length old - p - 3) / 4 → r.done ≡ true → r.day ≡ x.day → r.rows ≡ rows
-          → (mid : List ℕ) (from : ℕ) → Wrote old p (answer_words x.answer) mid from
-          → Wrote mid from (lines_words (take (lines_in x.answer) x.lines)) log' r.next
-          → Steps (setting_at f day) as_lent (E.Play room) old p r log' opens reserves helds
-      play-done less t y z mid from v w =
-          let blank = replicate room no_line in
-          let e = length-replicate room no_line in
-          let three = answer-length x.answer in
-          steps-done (setting_at f day) as_lent (E.Play room) old p r log' opens reserves helds t
-          (record {
-            fit = omega (arith, play-length);
-            wrote = rw play-words (wrote_then old p (answer_words x.answer) mid from (lines_words (take (lines_in x.answer) x.lines)) log' r.next (omega arith) v w);
-            day = y ∙ sym (plays.day opens reserves helds blank e);
-            state =
-                same-state (ap (λ (u : Day). u.now) y) (ap (λ (u : Day). u.count) y) refl z refl refl refl
-                ∙ sym (plays.state opens reserves helds blank e);
-          })
+        let three = answer-length a in
+        steps-done S lent (Some (E.Play room)) old after sheet log'
+        (record {
+          fit = omega (arith, play-length);
+          wrote =
+              rw play-words
+              (wrote_then old.words.now old.at (answer_words a) mid.words.now mid.at (lines_words lines) log'.words.now log'.at (omega arith) v w);
+          day = sym (plays.day sheet.opens.now sheet.reserves.now sheet.helds.now blank e);
+          state =
+              same-state refl refl plays.places plays.rows refl refl refl
+              ∙ sym (plays.state sheet.opens.now sheet.reserves.now sheet.helds.now blank e);
+        })

@@ -1,7 +1,6 @@
 -- Words written to a log one after the other. Assumes nothing.
-use Rattle.std.specs.Prelude.{◌≡◌, refl, List, [], ◌∷◌, ◌++◌, ℕ, suc, ◌+◌, ◌*◌, ◌≤◌, ◌<◌, length, get_or, take, drop, set}
+use Rattle.std.specs.Prelude.{◌≡◌, refl, List, [], ◌∷◌, ◌++◌, ℕ, ◌+◌, ◌*◌, ◌≤◌, ◌<◌, length, get_or, take, drop}
 use Rattle.std.proofs.Common.{sym, ap, ◌∙◌, append_assoc, append-nil, arith, add-one, length-append, length-take, length-drop, take-append-drop, take_at, drop_at, drop-drop, take-suc, length-take-le}
-use Rattle.std.proofs.lemmas.List.Edits.{sets-eq}
 use Rattle.model.specs.declared.Line.{Line}
 use Rattle.replay.specs.Log.{line_words, lines_words, Wrote}
 
@@ -42,23 +41,6 @@ wrote_then old at ws mid next us new last h v w =
       place = omega (arith, v.place, w.place, length-append ws us);
     }
 
--- ---- stores one after the other
-
-pub wrote-three : (old : List ℕ) (at a b c : ℕ) → at + 3 ≤ length old
-    → Wrote old at (a ∷ b ∷ c ∷ []) (set (set (set old at a) (at + 1) b) (at + 2) c) (at + 3)
-wrote-three old at a b c h =
-    let e₁ : at + 1 ≡ suc at = omega arith in
-    let e₂ : at + 2 ≡ suc (suc at) = omega arith in
-    record { log = rw (e₁, e₂) (sets-eq (a ∷ b ∷ c ∷ []) old at h); place = refl }
-
-pub wrote-four : (old : List ℕ) (at a b c d : ℕ) → at + 4 ≤ length old
-    → Wrote old at (a ∷ b ∷ c ∷ d ∷ []) (set (set (set (set old at a) (at + 1) b) (at + 2) c) (at + 3) d) (at + 4)
-wrote-four old at a b c d h =
-    let e₁ : at + 1 ≡ suc at = omega arith in
-    let e₂ : at + 2 ≡ suc (suc at) = omega arith in
-    let e₃ : at + 3 ≡ suc (suc (suc at)) = omega arith in
-    record { log = rw (e₁, e₂, e₃) (sets-eq (a ∷ b ∷ c ∷ d ∷ []) old at h); place = refl }
-
 -- ---- the lines of a report
 
 -- in their order
@@ -80,19 +62,18 @@ lines_more ls i d h =
 pub lines-size : (ls : List Line) (i : ℕ) → i ≤ length ls → length (lines_words (take i ls)) ≡ 4 * i
 lines-size ls i h = lines-length (take i ls) ∙ ap (λ (n : ℕ). 4 * n) (length-take-le i ls h)
 
--- a loop that has written i of count lines: where it stands, and what one line more makes of it
-module _ (old : List ℕ) (from : ℕ) (ls : List Line) (count : ℕ) (there : count ≤ length ls) (room : from + 4 * count ≤ length old)
-    (i : ℕ) (new : List ℕ) (at : ℕ) (w : Wrote old from (lines_words (take i ls)) new at) where
-  pub lines-stand : i ≤ count → (length new ≡ length old) × (at ≡ from + 4 * i)
+-- a loop that has written i of the lines: where it stands, and what one line more makes of it
+module _ (old : List ℕ) (from : ℕ) (ls : List Line) (room : from + 4 * length ls ≤ length old) (i : ℕ) (new : List ℕ) (at : ℕ)
+    (w : Wrote old from (lines_words (take i ls)) new at) where
+  pub lines-stand : i ≤ length ls → (length new ≡ length old) × (at ≡ from + 4 * i)
   lines-stand h =
-      let n = lines-size ls i (omega arith) in (
+      let n = lines-size ls i h in (
         wrote-length old from (lines_words (take i ls)) new at (omega arith) w,
         omega (arith, w.place),
       )
 
-  pub lines_next : (d : Line) (last : List ℕ) (next : ℕ) → i < count → Wrote new at (line_words (get_or ls i d)) last next
+  pub lines_next : (d : Line) (last : List ℕ) (next : ℕ) → i < length ls → Wrote new at (line_words (get_or ls i d)) last next
       → Wrote old from (lines_words (take (i + 1) ls)) last next
   lines_next d last next h v =
       let n = lines-size ls i (omega arith) in
-      rw (lines_more ls i d (omega arith))
-      (wrote_then old from (lines_words (take i ls)) new at (line_words (get_or ls i d)) last next (omega arith) w v)
+      rw (lines_more ls i d h) (wrote_then old from (lines_words (take i ls)) new at (line_words (get_or ls i d)) last next (omega arith) w v)

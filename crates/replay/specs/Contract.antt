@@ -1,7 +1,8 @@
 -- Replay: a day is opened and the journal's entries are done in order, as far as the log has room. Demand 3 of the entries done,
 -- as a promise of running code: every answer and report line, and the records, sheet and round at the end, are those of the
 -- plain day.
-use Rattle.std.specs.Prelude.{◌≡◌, List, [], ◌++◌, ℕ, zero, suc, length, take, drop}
+use Rattle.std.specs.Prelude.{◌≡◌, Option, List, [], ◌++◌, ℕ, zero, suc, length, take, drop}
+use Rattle.std.specs.Prelude as std
 use Rattle.laws.specs.Questions.{refusal}
 use Rattle.model.specs.Day.{Setting, State}
 use Rattle.model.specs.Fit.{Fits}
@@ -11,6 +12,8 @@ use Rattle.model.specs.PlainDay.{at_first, plain_after, ever_taken}
 use Rattle.model.specs.Expected.{expected}
 use Rattle.model.specs.declared.Booking.{Booking}
 use Rattle.model.specs.declared.Day.{Day}
+use Rattle.model.specs.declared.Desk.{Desk}
+use Rattle.model.specs.declared.Sheet.{Sheet}
 use Rattle.replay.specs.Journal.{entries}
 use Rattle.replay.specs.PlainRun.{calls_of, plain_log, entries_done}
 use Rattle.replay.specs.declared.Replayed.{Replayed}
@@ -32,21 +35,36 @@ pub record Result : Type 0 where
   pub day : Day
   pub state : State
 
--- the answer, every record place, every place of the log and of the sheet
-pub record Replays (w : Result) (old : List ℕ) (r : Replayed) (log' opens' reserves' helds' : List ℕ) : Type 0 where
-  pub refusal : r.refusal ≡ w.refusal
-  pub entries : r.entries ≡ w.entries
-  pub words : r.words ≡ length w.words
+-- the opening's number, 0 if it is accepted
+abbrev pub refusal_in : std.Result Replayed ℕ → ℕ
+refusal_in (std.Ok _) = 0
+refusal_in (std.Err number) = number
+
+-- how many entries were done, none after a refused opening
+abbrev pub entries_in : std.Result Replayed ℕ → ℕ
+entries_in (std.Ok done) = done.entries
+entries_in (std.Err _) = 0
+
+-- how many words of the log were written
+abbrev pub words_in : std.Result Replayed ℕ → ℕ
+words_in (std.Ok done) = done.words
+words_in (std.Err _) = 0
+
+-- the answer, the day, every record place, every place of the log and of the sheet
+pub record Replays (w : Result) (old : List ℕ) (r : std.Result Replayed ℕ) (desk' : Desk) (sheet' : Sheet) (log' : List ℕ) : Type 0 where
+  pub refusal : refusal_in r ≡ w.refusal
+  pub entries : entries_in r ≡ w.entries
+  pub words : words_in r ≡ length w.words
   pub log : log' ≡ w.words ++ drop (length w.words) old
-  pub day : r.day ≡ w.day
-  pub rows : r.rows ≡ w.state.records
-  pub opens : opens' ≡ w.state.opens
-  pub reserves : reserves' ≡ w.state.reserves
-  pub helds : helds' ≡ w.state.helds
+  pub day : desk'.day ≡ w.day
+  pub rows : desk'.rows ≡ w.state.records
+  pub opens : sheet'.opens.now ≡ w.state.opens
+  pub reserves : sheet'.reserves.now ≡ w.state.reserves
+  pub helds : sheet'.helds.now ≡ w.state.helds
 
 module _ (S : Setting) (lent : State) (fits : (bs : List Booking) → Dec (Fits S bs)) where
   -- the entries es are done: the plain day after their calls, and everything lent as it expects
-  abbrev pub result_after : List Entry → Result
+  abbrev pub result_after : List (Option Entry) → Result
   result_after es =
       let s = plain_after S lent.places fits at_first (calls_of es) in
       let taken = ever_taken S lent.places fits at_first (calls_of es) in
@@ -59,7 +77,7 @@ module _ (S : Setting) (lent : State) (fits : (bs : List Booking) → Dec (Fits 
         state = d;
       }
 
-  -- an opening that is refused changes nothing
+  -- a refused opening leaves no day, and everything else as it was lent
   abbrev pub result_by : ℕ → List ℕ → ℕ → Result
   result_by zero journal room = result_after (take (entries_done S lent.places fits at_first room (entries journal)) (entries journal))
   result_by (suc k) journal room = record { refusal = suc k; entries = 0; words = []; day = no_day; state = lent }

@@ -4,6 +4,7 @@ use Rattle.std.specs.Prelude.{◌≡◌, List, [], ◌∷◌, ◌++◌, ℕ, ◌
 use Rattle.model.specs.declared.Line.{Line}
 use Rattle.model.specs.declared.Answer.{Answer}
 use Rattle.model.specs.declared.Answer.TheVariants.{Refused, Opened, Booked, Dropped, Played}
+use Rattle.replay.specs.declared.log.Log.{Log}
 
 -- booked: the start; played: the films open and the cabs served
 abbrev pub answer_words : Answer → List ℕ
@@ -28,3 +29,8 @@ logged_words answer lines = answer_words answer ++ lines_words lines
 pub record Wrote (old : List ℕ) (at : ℕ) (words new : List ℕ) (next : ℕ) : Type 0 where
   pub log : new ≡ take at old ++ words ++ drop (at + length words) old
   pub place : next ≡ at + length words
+
+-- the words were appended to a log, which is the lent list that it was
+pub record Appended (before : Log) (words : List ℕ) (after : Log) : Type 0 where
+  pub wrote : Wrote before.words.now before.at words after.words.now after.at
+  pub same-list : after.words.ghost_name ≡ before.words.ghost_name

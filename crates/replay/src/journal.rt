@@ -1,20 +1,21 @@
 // A journal's entries, 8 words each.
 ghost use Rattle.std.specs.Prelude.{◌≡◌, ◌+◌, ◌*◌, ◌≤◌, length};
-ghost use Rattle.replay.specs.Journal.{entry_words, entry_of, entry_at};
+ghost use Rattle.replay.specs.Journal.{entry_words, entry_of_words, entry_at};
 
 use model::Request;
 
-// What an entry asks for: a call, or no call.
+// The call that an entry asks for.
 #[derive(Clone, Copy)]
 pub enum Entry {
     Book(Request),
     Drop(u32),
     Play(u64),
-    Unknown,
 }
 
 // words of an entry
 pub const ENTRY_WORDS: usize = 8;
+
+// The kinds are numbers, since programs in C write them into a journal.
 
 // the kind of a booking
 pub const BOOK: u64 = 1;
@@ -25,59 +26,36 @@ pub const DROP: u64 = 2;
 // the kind of a played round
 pub const PLAY: u64 = 3;
 
-// names are 32 bits wide: they are below this
-const NAMES: u64 = 4294967296;
-
-// The entry of a kind and its seven words.
-fn entry_of(
-    kind: u64,
-    a: u64,
-    film: u64,
-    prefetch: u64,
-    reserve: u64,
-    cabs: u64,
-    first: u64,
-    last: u64,
-) -> Entry
-    ensures { result ≡ entry_of kind a film prefetch reserve cabs first last }
+// The call of an entry's words; none of another kind, nor with a name of more than 32 bits.
+#[tactic(auto, unfolding(crate::specs::Journal::entry_of))]
+fn entry_of(words: &[u64]) -> Option<Entry>
+    requires { length words.now ≡ entry_words }
+    ensures { result ≡ entry_of_words words.now }
 {
-    if kind == PLAY {
-        return Entry::Play(a);
-    }
-    if NAMES <= a {
-        return Entry::Unknown;
-    }
-    if kind == BOOK {
-        return Entry::Book(Request {
-            name: a as u32,
+    let [kind, argument, film, prefetch, reserve, cabs, first, last] = *words else {
+        return None;
+    };
+    match kind {
+        BOOK => Some(Entry::Book(Request {
+            name: u32::try_from(argument).ok()?,
             film,
             prefetch,
             reserve,
             cabs,
             first,
             last,
-        });
+        })),
+        DROP => u32::try_from(argument).ok().map(Entry::Drop),
+        PLAY => Some(Entry::Play(argument)),
+        _ => None,
     }
-    if kind == DROP {
-        return Entry::Drop(a as u32);
-    }
-    Entry::Unknown
 }
 
 // Entry i of the journal, which has it whole.
-pub fn entry_at(journal: &[u64], i: usize) -> Entry
+pub fn entry_at(journal: &[u64], i: usize) -> Option<Entry>
     requires { entry_words * i + entry_words ≤ length journal.now }
     ensures { result ≡ entry_at journal.now i }
 {
     let at = ENTRY_WORDS * i;
-    entry_of(
-        journal[at],
-        journal[at + 1],
-        journal[at + 2],
-        journal[at + 3],
-        journal[at + 4],
-        journal[at + 5],
-        journal[at + 6],
-        journal[at + 7],
-    )
+    entry_of(&journal[at..at + ENTRY_WORDS])
 }

@@ -1,14 +1,14 @@
 // Replay of a day's journal.
 #![tactic(auto)]
 
+pub mod file;
 pub mod journal;
 pub mod log;
 pub mod step;
 
-ghost use Rattle.std.specs.Prelude.{◌≡◌, List, length};
-ghost use Rattle.films.specs.Catalogue.{catalogue_of};
-ghost use Rattle.model.specs.Answers.{number_of};
-ghost use Rattle.model.specs.Code.{state_of};
+ghost use Rattle.std.specs.Prelude.{◌≡◌, ◌<◌, List, Ok, length};
+ghost use Rattle.std.specs.Result.{IfErr};
+ghost use Rattle.model.specs.Code.{state_in, SameLists};
 ghost use Rattle.model.specs.Fit.{Fits};
 ghost use Rattle.model.specs.declared.Booking.{Booking};
 ghost use Rattle.opening.specs.Contract.{asked};
@@ -18,130 +18,74 @@ ghost use Rattle.replay.specs.Contract.{lent_to, result_of, Replays};
 ghost use Rattle.replay.specs.DeskRun.{desk_run, run_result};
 ghost use Rattle.replay.specs.Pictured.{Pictured};
 
-use films::catalogue::catalogue;
-use films::types::Catalogue;
+use file::LentFile;
 use journal::{ENTRY_WORDS, entry_at};
-use limits::bounds::MAX_BOOKINGS;
-use model::{Answer, Booking, Day};
+use log::Log;
+use model::{Answer, Day, Desk, Sheet};
 use opening::open;
 use step::step;
 
-// What a replay gives: the opening's refusal or 0, how many entries were done, how many words of the log were written, the day and
-// the list's first 256 places.
-#[derive(Clone, Copy)]
+// What a replay gives: how many entries were done, and how many words of the log were written.
+#[derive(Clone, Copy, PartialEq, Eq, Debug)]
 pub struct Replayed {
-    pub refusal: u32,
     pub entries: u64,
     pub words: u64,
-    pub day: Day,
-    pub rows: [Booking; MAX_BOOKINGS],
 }
 
-// The number of a refusal; 0 of any other answer.
-fn number_of(answer: Answer) -> u32
-    ensures { result ≡ number_of answer }
-{
-    match answer {
-        Answer::Refused(number) => number,
-        Answer::Opened => 0,
-        Answer::Booked(_) => 0,
-        Answer::Dropped => 0,
-        Answer::Played(_, _) => 0,
-    }
-}
-
-// Carries the journal's entries out in order, from an opened day on, until one's words do not fit in what is left of the log. The
-// file's catalogue is c.
+// Carries the journal's entries out in order, from an opened day on, until one's words do not fit in what is left of the log.
 fn run(
-    file: &[u8],
-    c: Catalogue,
-    day: Day,
-    rows: [Booking; MAX_BOOKINGS],
-    places: u64,
+    file: &LentFile<'_>,
+    desk: &mut Desk,
+    sheet: &mut Sheet<'_>,
     journal: &[u64],
-    log: &mut [u64],
-    opens: &mut [u64],
-    reserves: &mut [u64],
-    helds: &mut [u64],
+    words: &mut [u64],
 ) -> Replayed
-    requires { (c ≡ catalogue_of file.now) × Pictured (setting_at file.now day) (state_of day rows places opens.old reserves.old helds.old) }
-    ensures { Replays (run_result (setting_at file.now day) (desk_run (setting_at file.now day) (state_of day rows places opens.old reserves.old helds.old) (length log.old) (entries journal.now))) log.old result log.new opens.new reserves.new helds.new }
+    requires { Pictured (setting_at file.now.bytes.now desk.old.day) (state_in desk.old sheet.old) }
+    ensures replays { Replays (run_result (setting_at file.now.bytes.now desk.old.day) (desk_run (setting_at file.now.bytes.now desk.old.day) (state_in desk.old sheet.old) (length words.old) (entries journal.now))) words.old (Ok result) desk.new sheet.new words.new }
+    ensures places { desk.new.places ≡ desk.old.places }
+    ensures same_sheet { SameLists sheet.old sheet.new }
 {
     let count = journal.len() / ENTRY_WORDS;
-    let mut today = day;
-    let mut list = rows;
-    let mut at = 0;
-    let mut i = 0;
-    while i < count {
-        let entry = entry_at(journal, i);
-        let stepped = step(
-            file, c, today, list, places, entry, log, at, opens, reserves, helds,
-        );
-        if !stepped.done {
+    let mut log = Log { words, at: 0 };
+    for i in 0..count {
+        if !step(file, desk, sheet, entry_at(journal, i), &mut log) {
             return Replayed {
-                refusal: 0,
                 entries: i as u64,
-                words: at as u64,
-                day: today,
-                rows: list,
+                words: log.at as u64,
             };
         }
-        let after = stepped.day;
-        let left = stepped.rows;
-        today = after;
-        list = left;
-        at = stepped.next;
-        i += 1;
     }
     Replayed {
-        refusal: 0,
-        entries: i as u64,
-        words: at as u64,
-        day: today,
-        rows: list,
+        entries: count as u64,
+        words: log.at as u64,
     }
 }
 
-// Opens a day and carries the journal's entries out in order. The log gets each entry's answer and, after a played round, its
-// report's lines; the replay ends before the first entry whose words do not fit in what is left of the log. An opening that is
-// refused gives its number, and nothing lent changes.
+// Opens a day on the desk and carries the journal's entries out in order. The log gets each entry's answer and, after a played
+// round, its report's lines; the replay ends before the first entry whose words do not fit in what is left of the log. An opening
+// that is refused gives its number, as the model's answer has it. The desk then has no day, all zeros, whatever day it had, and
+// nothing else that is lent changes.
 pub fn replay(
     file: &[u8],
+    desk: &mut Desk,
+    sheet: &mut Sheet<'_>,
     rounds: u64,
     disk: u64,
     memory: u64,
-    rows: [Booking; MAX_BOOKINGS],
-    places: u64,
     journal: &[u64],
     log: &mut [u64],
-    opens: &mut [u64],
-    reserves: &mut [u64],
-    helds: &mut [u64],
-) -> Replayed
-    ensures { (fits : (bs : List Booking) → Dec (Fits (setting_at file.now (asked rounds disk memory)) bs)) → Replays (result_of (setting_at file.now (asked rounds disk memory)) (lent_to rows places opens.old reserves.old helds.old) fits journal.now (length log.old)) log.old result log.new opens.new reserves.new helds.new }
+) -> Result<Replayed, u32>
+    ensures replays { (fits : (bs : List Booking) → Dec (Fits (setting_at file.now (asked rounds disk memory)) bs)) → Replays (result_of (setting_at file.now (asked rounds disk memory)) (lent_to desk.old.rows desk.old.places sheet.old.opens.now sheet.old.reserves.now sheet.old.helds.now) fits journal.now (length log.old)) log.old result desk.new sheet.new log.new }
+    ensures numbered { IfErr result (λ number. 0 < number) }
+    ensures places { desk.new.places ≡ desk.old.places }
+    ensures same_sheet { SameLists sheet.old sheet.new }
 {
-    let before = Day {
-        rounds: 0,
-        disk: 0,
-        memory: 0,
-        now: 0,
-        count: 0,
-    };
-    let opened = open(before, rounds, disk, memory, opens, reserves, helds);
-    let answer = opened.answer;
-    let day = opened.day;
-    let refusal = number_of(answer);
-    if refusal != 0 {
-        return Replayed {
-            refusal,
-            entries: 0,
-            words: 0,
-            day,
-            rows,
-        };
+    // A proof knows how long an array behind a reference is once a slice of it is made.
+    let _rows = &desk.rows[..];
+    desk.day = Day::default();
+    if let Answer::Refused(number) = open(&mut desk.day, sheet, rounds, disk, memory) {
+        return Err(number);
     }
-    let c = catalogue(file);
-    run(
-        file, c, day, rows, places, journal, log, opens, reserves, helds,
-    )
+    let file = LentFile::read(file);
+    Ok(run(&file, desk, sheet, journal, log))
 }

@@ -53,11 +53,6 @@ peak-drop b [] t h = absurd (not-suc-le-zero h)
 peak-drop b (x ∷ xs) zero h = refl
 peak-drop b (x ∷ xs) (suc t) h = peak-drop b xs t (le_of_suc-le-suc h)
 
-pub largest-drop : (xs : List ℕ) (t : ℕ) → t < length xs → largest (drop t xs) ≡ max (get_or xs t 0) (largest (drop (suc t) xs))
-largest-drop [] t h = absurd (not-suc-le-zero h)
-largest-drop (x ∷ xs) zero h = refl
-largest-drop (x ∷ xs) (suc t) h = largest-drop xs t (le_of_suc-le-suc h)
-
 pub prefetch : (b p : ℕ) (xs : List ℕ) → carry b (sends p xs) ≡ carry b xs - p * b
 prefetch b zero xs = omega (arith, zero-mul b)
 prefetch b (suc p) xs = omega (arith, prefetch b p xs, suc-mul p b)
@@ -119,3 +114,8 @@ pub profile-bound : (b m : ℕ) (xs : List ℕ) → largest xs ≤ m → largest
 profile-bound b m [] h = omega arith
 profile-bound b m (x ∷ xs) h =
     omega (arith, profile-bound b m xs (omega arith), carry-bound b m xs (omega arith), mul-suc m (length xs))
+
+pub largest-drop : (xs : List ℕ) (t : ℕ) → t < length xs → largest (drop t xs) ≡ max (get_or xs t 0) (largest (drop (suc t) xs))
+largest-drop [] t h = absurd (not-suc-le-zero h)
+largest-drop (x ∷ xs) zero h = refl
+largest-drop (x ∷ xs) (suc t) h = largest-drop xs t (le_of_suc-le-suc h)

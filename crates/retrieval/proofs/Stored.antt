@@ -1,29 +1,18 @@
 -- A film where it stands in the file: its sends, round by round. Assumes nothing.
-use Rattle.std.specs.Prelude.{◌≡◌, refl, List, [], ◌∷◌, ℕ, zero, suc, ◌+◌, ◌-◌, ◌*◌, ◌≤◌, ◌<◌, max, length, get_or, drop}
-use Rattle.std.proofs.Common.{ap, ◌∙◌, not-suc-le-zero, le_of_suc-le-suc, arith, drop_of_length-le}
+use Rattle.std.specs.Prelude.{◌≡◌, refl, List, [], ◌∷◌, ℕ, zero, suc, ◌+◌, ◌-◌, ◌≤◌, ◌<◌, max, length, get_or, drop, ◌*◌}
+use Rattle.std.proofs.Common.{ap, not-suc-le-zero, le_of_suc-le-suc, arith, drop_of_length-le}
 use Rattle.limits.specs.Bounds.{max_size}
 use Rattle.laws.specs.Sums.{largest}
-use Rattle.films.specs.Sizes.{size, sizes, Stored}
+use Rattle.films.specs.Sizes.{sizes, Stored, size}
+use Rattle.films.proofs.SizeLaws.{length-sizes, get_or-sizes}
 use Rattle.retrieval.specs.Schedule.{sends}
 use Rattle.retrieval.specs.Carry.{carry, profile}
-use Rattle.retrieval.proofs.CarryLaws.{carry-drop, profile-at, peak-drop, largest-drop, profile-bound, prefetch-peak, get_or-largest}
+use Rattle.retrieval.proofs.CarryLaws.{carry-drop, profile-at, peak-drop, profile-bound, prefetch-peak, get_or-largest, largest-drop}
 use Rattle.retrieval.specs.Stored.{max_held, sends_at}
 
--- ---- the sizes by their place
+-- ---- the sizes
 
-pub length-sizes : (s : List ℕ) (at n : ℕ) → length (sizes s at n) ≡ n
-length-sizes s at zero = refl
-length-sizes s at (suc n) = ap suc (length-sizes s (at + 4) n)
-
-pub sizes-at : (s : List ℕ) (at n i : ℕ) → i < n → get_or (sizes s at n) i 0 ≡ size s (at + 4 * i)
-sizes-at s at zero i h = absurd (not-suc-le-zero h)
-sizes-at s at (suc n) zero h = ap (size s) (omega arith)
-sizes-at s at (suc n) (suc i) h = sizes-at s (at + 4) n i (le_of_suc-le-suc h) ∙ ap (size s) (omega arith)
-
-pub size_small : (s : List ℕ) (at n i : ℕ) → Stored s at n → i < n → size s (at + 4 * i) ≤ max_size
-size_small s at n i w h = omega (arith, w.small i, sizes-at s at n i h)
-
-pub largest-bound : (xs : List ℕ) (m : ℕ) → ((i : ℕ) → get_or xs i 0 ≤ m) → largest xs ≤ m
+largest-bound : (xs : List ℕ) (m : ℕ) → ((i : ℕ) → get_or xs i 0 ≤ m) → largest xs ≤ m
 largest-bound [] m f = omega arith
 largest-bound (x ∷ xs) m f = omega (arith, f 0, largest-bound xs m (λ i. f (suc i)))
 
@@ -82,14 +71,6 @@ turn-peak b (suc k) c x xs h l ec ex =
     let ex' : x ≡ get_or xs k 0 = rw e at ex in
     rw e (omega (arith, peak-drop b xs k l))
 
-pub turn-largest : (k x : ℕ) (xs : List ℕ) → 0 < k → k ≤ length xs → x ≡ get_or xs (k - 1) 0
-    → max (largest (drop k xs)) x ≡ largest (drop (k - 1) xs)
-turn-largest zero x xs h l ex = absurd (not-suc-le-zero h)
-turn-largest (suc k) x xs h l ex =
-    let e : suc k - 1 ≡ k = omega arith in
-    let ex' : x ≡ get_or xs k 0 = rw e at ex in
-    rw e (omega (arith, largest-drop xs k l))
-
 -- ---- what a film holds
 
 pub length-profile : (b : ℕ) (xs : List ℕ) → length (profile b xs) ≡ length xs
@@ -105,3 +86,14 @@ profile-small s at n p b w =
 pub held-bound : (s : List ℕ) (at n p b t : ℕ) → Stored s at n → get_or (profile b (sends_at s at n p)) t 0 ≤ max_held
 held-bound s at n p b t w =
     omega (arith, profile-small s at n p b w, get_or-largest (profile b (sends_at s at n p)) t)
+
+pub size_small : (s : List ℕ) (at n i : ℕ) → Stored s at n → i < n → size s (at + 4 * i) ≤ max_size
+size_small s at n i w h = omega (arith, w.small i, get_or-sizes s at n i h)
+
+pub turn-largest : (k x : ℕ) (xs : List ℕ) → 0 < k → k ≤ length xs → x ≡ get_or xs (k - 1) 0
+    → max (largest (drop k xs)) x ≡ largest (drop (k - 1) xs)
+turn-largest zero x xs h l ex = absurd (not-suc-le-zero h)
+turn-largest (suc k) x xs h l ex =
+    let e : suc k - 1 ≡ k = omega arith in
+    let ex' : x ≡ get_or xs k 0 = rw e at ex in
+    rw e (omega (arith, largest-drop xs k l))

@@ -3,7 +3,7 @@
 use Rattle.std.specs.Prelude.{◌≡◌, List, [], ◌∷◌, ℕ, ◌+◌, ◌^◌, ◌≤◌, ◌<◌, length, get_or, drop}
 use Rattle.std.proofs.Math.Seq.{slice}
 use Rattle.retrieval.specs.Carry.{carry, profile}
-use Rattle.retrieval.specs.Stored.{sends_at, InRange}
+use Rattle.retrieval.specs.Stored.{sends_at}
 
 -- f of what stands and of what comes, in the first places of s
 abbrev pub onto : (ℕ → ℕ → ℕ) → List ℕ → List ℕ → List ℕ
@@ -23,12 +23,11 @@ Room s hs = (t : ℕ) → get_or s t 0 + get_or hs t 0 < 2 ^ 63
 abbrev pub held_in : List ℕ → ℕ → ℕ → ℕ → ℕ → ℕ → ℕ → List ℕ
 held_in s at n p b a e = slice a e (profile b (sends_at s at n p))
 
--- a film's rounds from a to e - 1 are to be added to the first places of a list, where c is the carry of
+-- of a film that sends xs, the rounds from a to e - 1 are to be added to the first places of a list, where c is the carry of
 -- the rounds from e on and no sum grows too large
-pub record Adds (part s : List ℕ) (at n p b a e c : ℕ) : Type 0 where
-  pub film : InRange s at n p b
+pub record Adds (part xs : List ℕ) (b a e c : ℕ) : Type 0 where
   pub order : a ≤ e
-  pub rounds : e ≤ p + n
+  pub rounds : e ≤ length xs
   pub places : e ≤ a + length part
-  pub carried : c ≡ carry b (drop e (sends_at s at n p))
-  pub room : Room part (held_in s at n p b a e)
+  pub carried : c ≡ carry b (drop e xs)
+  pub room : Room part (slice a e (profile b xs))

@@ -1,6 +1,6 @@
 -- A booking's rounds from the last to the first: what it holds, and what is carried. Assumes nothing.
 use Rattle.std.specs.Prelude.{◌≡◌, Bool, true, false, List, ℕ, suc, ◌+◌, ◌-◌, ◌≤◌, ◌<◌, min, length, get_or}
-use Rattle.std.proofs.Common.{sym, ◌∙◌, arith}
+use Rattle.std.proofs.Common.{sym, ap, ◌∙◌, arith}
 use Rattle.std.proofs.Math.Decide.{dec_le}
 use Rattle.retrieval.proofs.CarryLaws.{carry-drop, profile-at}
 use Rattle.retrieval.specs.Stored.{max_held}
@@ -52,9 +52,9 @@ module _ (f : List ℕ) (x : Stream) where
   carry-round c t k e h = rw (← e) h
 
   -- rounds after the booking's end are left out
-  pub carry-cut : (c from n k : ℕ) → k ≡ min n (end_of x - from) → c ≡ carry_from f (from + n) x → c ≡ carry_from f (from + k) x
-  carry-cut c from n k e w = go (dec_le (end_of x) (from + n))
+  pub carry-cut : (t k : ℕ) → min t (end_of x) ≤ k → k ≤ t → carry_from f t x ≡ carry_from f k x
+  carry-cut t k h l = go (dec_le (end_of x) k)
     where
-      go : Dec (end_of x ≤ from + n) → c ≡ carry_from f (from + k) x
-      go (yes h) = w ∙ carry-late (from + n) h ∙ sym (carry-late (from + k) (omega arith))
-      go (no h) = carry-round c (from + n) (from + k) (omega arith) w
+      go : Dec (end_of x ≤ k) → carry_from f t x ≡ carry_from f k x
+      go (yes e) = carry-late t (omega arith) ∙ sym (carry-late k e)
+      go (no e) = let q : t ≡ k = omega arith in ap (λ (w : ℕ). carry_from f w x) q

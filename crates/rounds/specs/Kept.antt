@@ -58,7 +58,7 @@ BlockKept b words losses D M r =
     (f : List ℕ) (ys : List Stream) → BlockOf f ys b words → r ≡ in_rounds b.from b.rounds (λ t. sums_kept (loss_in losses) D M (sums_in f t ys))
 
 -- what is asked: bookings that can be played, in a day
-pub record Testable (f : List ℕ) (xs : List Stream) (count T : ℕ) : Type 0 where
-  pub few : count ≤ max_bookings
-  pub playable : EachOf (Playable f) count xs
+pub record Testable (f : List ℕ) (xs : List Stream) (T : ℕ) : Type 0 where
+  pub few : length xs ≤ max_bookings
+  pub playable : EachOf (Playable f) xs
   pub day : T ≤ max_day

@@ -2,10 +2,10 @@
 use Rattle.std.specs.Prelude.{◌≡◌, refl, Bool, cond, ◌&&◌, List, [], ◌∷◌, ℕ, zero, suc, ◌+◌, ◌-◌, ◌≤◌, ◌<◌, leb, ltb, eqb, length, get_or}
 use Rattle.std.proofs.Math.Path.{sym, ap}
 use Rattle.std.proofs.Common.{ap₂, ◌∙◌, true≢false, arith}
-use Rattle.std.proofs.Math.Bool.{true, false}
+use Rattle.std.proofs.Math.Bool.{true, false, and-true, and_comm, and_assoc}
 use Rattle.std.specs.Int.Bits.{bit_and, bit_or, and_zero_r, or_zero_r, or_add_and}
 use Rattle.std.proofs.lemmas.Nat.{and_le_l, and_le_r}
-use borrow.Author.Tests.{le-leb, lt-leb, le-ltb, lt-ltb, leb-true, leb-false, ltb-true, eqb-true, eqb-false, ne_eqb}
+use borrow.Author.Tests.{le-leb, le-ltb, lt-ltb, leb-true, leb-false, ltb-true, eqb-true, eqb-false, ne_eqb, lt-leb}
 use Rattle.limits.specs.Bounds.{max_bookings}
 use Rattle.laws.specs.Tests.{left, right, below}
 use Rattle.loss.specs.Loss.{table, loss_at}
@@ -13,25 +13,13 @@ use Rattle.loss.proofs.LossLaws.{table-length}
 use Rattle.load.specs.Stream.{end_of, open_in, shows_in, holds_in, open_count, reserved_in, held_in}
 use Rattle.load.specs.StreamLaws.{open-within, open-place, cond-most}
 use Rattle.load.specs.declared.stream.Stream.{Stream}
+use Rattle.rounds.specs.Rows.{active}
 use Rattle.rounds.specs.Sums.{head_from, open_head, busy_head, none, added, with_one, sums_from, sums_in}
-use Rattle.rounds.specs.SumLaws.{open-head, sums-films, sums-reserves, sums-held}
+use Rattle.rounds.specs.SumLaws.{sums-active, open-head, sums-films, sums-reserves, sums-held}
 use Rattle.rounds.specs.Kept.{cabs_in, apart_in, kept_in, sums_kept, in_rounds, loss_in, Losses}
 use Rattle.rounds.specs.declared.sums.Sums.{Sums}
 
 -- ---- rounds tested in order
-
-and-true : (a : Bool) → a && true ≡ a
-and-true true = refl
-and-true false = refl
-
-and-swap : (a b : Bool) → a && b ≡ b && a
-and-swap true b = sym (and-true b)
-and-swap false true = refl
-and-swap false false = refl
-
-and_assoc : (a b c : Bool) → (a && b) && c ≡ a && (b && c)
-and_assoc true b c = refl
-and_assoc false b c = refl
 
 module _ (p : ℕ → Bool) where
   pub rounds-no : (t n : ℕ) → 0 < n → p t ≡ false → in_rounds t n p ≡ false
@@ -63,7 +51,7 @@ module _ (p : ℕ → Bool) where
       let b : 0 + n ≡ n = omega arith in
       ap (λ (k : ℕ). in_rounds 0 k p) a ∙ rounds-then 0 n 1
       ∙ ap₂ (λ (u v : Bool). u && v) (rounds-below n) (ap (λ (k : ℕ). p k && true) b ∙ and-true (p n))
-      ∙ and-swap (below n p) (p n)
+      ∙ and_comm (below n p) (p n)
 
   module _ (q : ℕ → Bool) where
     rounds-same : (t n : ℕ) → ((k : ℕ) → t ≤ k → k < t + n → q k ≡ p k) → in_rounds t n q ≡ in_rounds t n p
@@ -159,6 +147,18 @@ kept-sums f losses D M xs t l few =
     let b : (sums_in f t xs).reserves ≡ reserved_in t xs = sums-reserves f t none xs ∙ omega arith in
     let c : (sums_in f t xs).held ≡ held_in f t xs = sums-held f t none xs ∙ omega arith in
     rw (a, b, c, sums_apart f t none xs, l.loss (open_count t xs) (omega (arith, open-few t xs)))
+
+-- ---- a block of a day's rounds, by the sums of the bookings open in it
+
+pub kept-block : (f losses : List ℕ) (D M : ℕ) (xs : List Stream) (t n T : ℕ) (r : Bool) → Losses losses → length xs ≤ max_bookings → t + n ≤ T
+    → in_rounds 0 T (kept_in f loss_at D M xs) ≡ in_rounds t (T - t) (kept_in f loss_at D M xs)
+    → r ≡ in_rounds t n (λ k. sums_kept (loss_in losses) D M (sums_in f k (active t (t + n) xs)))
+    → in_rounds 0 T (kept_in f loss_at D M xs) ≡ r && in_rounds (t + n) (T - (t + n)) (kept_in f loss_at D M xs)
+kept-block f losses D M xs t n T r l few within before told =
+    let q : ℕ → Bool = λ k. sums_kept (loss_in losses) D M (sums_in f k (active t (t + n) xs)) in
+    before
+    ∙ rounds-block (kept_in f loss_at D M xs) q t n T r within
+    (λ k u v. ap (sums_kept (loss_in losses) D M) (sums-active f k t (t + n) u v none xs) ∙ kept-sums f losses D M xs k l few) told
 
 -- ---- the tests of one round
 

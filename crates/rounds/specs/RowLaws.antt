@@ -1,28 +1,24 @@
 -- The bookings open in some rounds, one by one, and their rows. Assumes nothing.
-use Rattle.std.specs.Prelude.{◌≡◌, refl, Bool, true, false, cond, ◌&&◌, List, [], ◌∷◌, ◌++◌, ℕ, zero, suc, ◌+◌, ◌-◌, ◌*◌, ◌≤◌, ◌<◌, leb, ltb, length, get_or, take, drop}
-use Rattle.std.proofs.Common.{sym, ap, ◌∙◌, true≢false, mul-zero, mul-le-mul_left, mul-le-mul_right, add-one, arith, length-append, length-take, length-drop, take-suc, take-add, get_or-take, lt-ltb, le-ltb, ltb-true, leb-true, leb-false}
+use Rattle.std.specs.Prelude.{◌≡◌, refl, Bool, true, false, cond, List, [], ◌∷◌, ◌++◌, ℕ, zero, suc, ◌+◌, ◌-◌, ◌*◌, ◌≤◌, ◌<◌, ltb, length, get_or, take, drop, map, ◌&&◌, leb}
+use Rattle.std.proofs.Common.{sym, ap, ◌∙◌, append-nil, take-append-drop, true≢false, mul-zero, mul-le-mul_left, mul-le-mul_right, arith, length-append, length-drop, lt-ltb, ltb-true, le-ltb, leb-true, leb-false}
 use borrow.Rule.Slice.PartMut.{mid_of, put_mid}
 use Rattle.limits.specs.Bounds.{max_bookings, max_day}
 use Rattle.laws.specs.Tests.{left, right, join}
 use Rattle.model.proofs.PlacesLaws.{length-per_round}
-use Rattle.load.specs.Basic.{Playable}
+use Rattle.load.specs.Basic.{Playable, EachOf}
 use Rattle.load.specs.Stream.{no_stream, end_of, open_in, holds_in}
 use Rattle.load.specs.StreamLaws.{open-place}
 use Rattle.load.specs.declared.stream.Stream.{Stream}
 use Rattle.laws.specs.Parts.{tail-length, tail-back}
 use Rattle.rounds.specs.Rows.{open_between, active, head_words, head_of, helds_of, row_of, RowsOf, BlockOf, Bookings}
-use Rattle.rounds.specs.TableLaws.{row_next, row_within, put-long, words-at, words-next}
+use Rattle.rounds.specs.Table.{marked_of, streams_in}
+use Rattle.rounds.specs.declared.marks.Marked.{Marked}
+use Rattle.std.proofs.lemmas.List.Elements.{filter_more, filter-append}
+use Rattle.std.proofs.lemmas.List.Sums.{length-filter, count_by-le-length}
+use Rattle.rounds.specs.TableLaws.{row_next, row_within, put-long, words-at, words-next, streams-long, streams-marked}
+use Rattle.std.proofs.lemmas.List.{length-map}
 
 -- ---- one booking
-
--- one that begins after the rounds, and one that does not
-pub between-late : (from to : ℕ) (x : Stream) → to ≤ x.start → false ≡ open_between from to x
-unfolding open_between
-between-late from to x h = rw (le-ltb x.start to h)
-
-pub between-from : (from to : ℕ) (x : Stream) → x.start < to → ltb from (end_of x) ≡ open_between from to x
-unfolding open_between
-between-from from to x h = rw (lt-ltb x.start to h)
 
 -- one that is open in one of them begins before they end
 pub between_start : (from to : ℕ) (x : Stream) → open_between from to x ≡ true → x.start < to
@@ -46,62 +42,24 @@ between-shut from to x e t u v = go (open_in t x) refl
         let p = open-place t x o in
         absurd (true≢false (sym (join (lt-ltb x.start to (omega (arith, p.0))) (lt-ltb from (end_of x) (omega (arith, p.1)))) ∙ e))
 
--- in a block of one round: those open in it
-pub between-one : (t : ℕ) (x : Stream) → open_between t (t + 1) x ≡ open_in t x
-unfolding open_between open_in
-between-one t x = ap (λ (v : Bool). v && ltb t (end_of x)) (same (leb x.start t) refl)
-  where
-    same : (v : Bool) → leb x.start t ≡ v → ltb x.start (t + 1) ≡ leb x.start t
-    same true e = lt-ltb x.start (t + 1) (omega (arith, leb-true x.start t e)) ∙ sym e
-    same false e = le-ltb x.start (t + 1) (omega (arith, leb-false x.start t e)) ∙ sym e
-
 -- ---- the list
 
 module _ (from to : ℕ) where
-  active-append : (xs ys : List Stream) → active from to (xs ++ ys) ≡ active from to xs ++ active from to ys
-  active-append [] ys = refl
-  active-append (x ∷ xs) ys = go (open_between from to x) (active-append xs ys)
-    where
-      go : (o : Bool) → active from to (xs ++ ys) ≡ active from to xs ++ active from to ys
-          → cond o (x ∷ active from to (xs ++ ys)) (active from to (xs ++ ys)) ≡ cond o (x ∷ active from to xs) (active from to xs) ++ active from to ys
-      go true e = rw e
-      go false e = e
-
   module _ (xs : List Stream) (i : ℕ) (h : i < length xs) where
-    next : active from to (take (i + 1) xs) ≡ active from to (take i xs) ++ active from to (get_or xs i no_stream ∷ [])
-    next =
-        ap (λ (k : ℕ). active from to (take k xs)) (add-one i) ∙ ap (active from to) (take-suc xs i no_stream h)
-        ∙ active-append (take i xs) (get_or xs i no_stream ∷ [])
-
     -- one more that is open in these rounds, and one that is not
     pub active-open : open_between from to (get_or xs i no_stream) ≡ true
         → active from to (take (i + 1) xs) ≡ active from to (take i xs) ++ (get_or xs i no_stream ∷ [])
-    active-open o = next ∙ rw o
+    active-open o = filter_more (open_between from to) xs i no_stream h ∙ rw o
 
     pub active-shut : open_between from to (get_or xs i no_stream) ≡ false → active from to (take (i + 1) xs) ≡ active from to (take i xs)
-    active-shut o = next ∙ rw o (append-none (active from to (take i xs)))
-      where
-        append-none : (l : List Stream) → l ++ [] ≡ l
-        append-none [] = refl
-        append-none (y ∷ l) = ap (λ (r : List Stream). y ∷ r) (append-none l)
+    active-shut o = filter_more (open_between from to) xs i no_stream h ∙ rw o (append-nil (active from to (take i xs)))
 
-  -- of the first i no more than of the first n
-  pub active-most : (xs : List Stream) (i n : ℕ) → i ≤ n → length (active from to (take i xs)) ≤ length (active from to (take n xs))
-  active-most xs i n h =
-      let e : n ≡ i + (n - i) = omega arith in
-      let split : active from to (take n xs) ≡ active from to (take i xs) ++ active from to (take (n - i) (drop i xs)) =
-      ap (λ (k : ℕ). active from to (take k xs)) e ∙ ap (active from to) (take-add i (n - i) xs)
-      ∙ active-append (take i xs) (take (n - i) (drop i xs)) in
-      omega (arith, ap length split, length-append (active from to (take i xs)) (active from to (take (n - i) (drop i xs))))
-
-  -- no more than there are
-  pub active-few : (xs : List Stream) → length (active from to xs) ≤ length xs
-  active-few [] = omega arith
-  active-few (x ∷ xs) = go (open_between from to x) (active-few xs)
-    where
-      go : (o : Bool) → length (active from to xs) ≤ length xs → length (cond o (x ∷ active from to xs) (active from to xs)) ≤ suc (length xs)
-      go true e = omega arith
-      go false e = omega arith
+  -- of the first i no more than of all
+  pub active-most : (xs : List Stream) (i : ℕ) → length (active from to (take i xs)) ≤ length (active from to xs)
+  active-most xs i =
+      let split : active from to xs ≡ active from to (take i xs) ++ active from to (drop i xs) =
+      ap (active from to) (sym (take-append-drop i xs)) ∙ filter-append (open_between from to) (take i xs) (drop i xs) in
+      omega (arith, ap length split, length-append (active from to (take i xs)) (active from to (drop i xs)))
 
   -- in fewer rounds no more
   pub active-less : (to' : ℕ) → to ≤ to' → (xs : List Stream) → length (active from to xs) ≤ length (active from to' xs)
@@ -163,19 +121,14 @@ rows_next f ys from n count words x part w h q =
     }
 
 -- there is room for the row of a booking that is open in these rounds
-pub rows-room : (from to : ℕ) (xs : List Stream) (i n size rows room : ℕ) → i < n → n ≤ length xs → rows ≡ length (active from to (take i xs))
-    → size * length (active from to (take n xs)) ≤ room → open_between from to (get_or xs i no_stream) ≡ true → size * rows + size ≤ room
-rows-room from to xs i n size rows room h k e m o =
-    let more = ap length (active-open from to xs i (omega arith) o) in
+pub rows-room : (from to : ℕ) (xs : List Stream) (i size rows room : ℕ) → i < length xs → rows ≡ length (active from to (take i xs))
+    → size * length (active from to xs) ≤ room → open_between from to (get_or xs i no_stream) ≡ true → size * rows + size ≤ room
+rows-room from to xs i size rows room h e m o =
+    let more = ap length (active-open from to xs i h o) in
     omega (
       arith,
-      row_within size rows (length (active from to (take n xs)))
-          (omega (
-            arith,
-            more,
-            length-append (active from to (take i xs)) (get_or xs i no_stream ∷ []),
-            active-most from to xs (i + 1) n (omega arith),
-          )),
+      row_within size rows (length (active from to xs))
+          (omega (arith, more, length-append (active from to (take i xs)) (get_or xs i no_stream ∷ []), active-most from to xs (i + 1))),
     )
 
 -- a word of a booking's row
@@ -196,23 +149,52 @@ rows_fit from r to w room xs h k m =
     )
 
 -- no more are open than there are bookings
-pub active-bound : (from to : ℕ) (xs : List Stream) (count : ℕ) → count ≤ max_bookings → length (active from to (take count xs)) ≤ max_bookings
-active-bound from to xs count h = omega (arith, active-few from to (take count xs), length-take count xs)
+pub active-bound : (from to : ℕ) (bookings : List Marked) → length bookings ≤ max_bookings → length (active from to (streams_in bookings)) ≤ max_bookings
+active-bound from to bookings h = omega (arith, length-filter (open_between from to) (streams_in bookings), count_by-le-length (open_between from to) (streams_in bookings), streams-long bookings)
 
 -- the rows that were written are those of a block
-pub block_of : (f : List ℕ) (xs : List Stream) (count : ℕ) (marks : List ℕ) (from n rows : ℕ) (words : List ℕ) → Bookings f xs count marks → count ≤ length xs
-    → from + n ≤ max_day → RowsOf f (active from (from + n) (take count xs)) from n rows words
-    → BlockOf f (active from (from + n) (take count xs)) (record { from = from; rounds = n; bookings = rows }) words
-block_of f xs count marks from n rows words b h d w =
+pub block_of : (f : List ℕ) (bookings : List Marked) (from n rows : ℕ) (words : List ℕ) → Bookings f bookings
+    → from + n ≤ max_day → RowsOf f (active from (from + n) (streams_in bookings)) from n rows words
+    → BlockOf f (active from (from + n) (streams_in bookings)) (record { from = from; rounds = n; bookings = rows }) words
+block_of f bookings from n rows words b d w =
     record {
-      few = omega (arith, w.bookings, active-bound from (from + n) xs count b.few);
-      playable =
-          λ i u.
-          active-each from (from + n) (Playable f) (take count xs)
-          (λ k v.
-          let here : k < count = omega (arith, length-take count xs) in
-          rw (get_or-take count xs k no_stream here) (b.playable k here))
-          i (omega (arith, w.bookings));
+      few = omega (arith, w.bookings, active-bound from (from + n) bookings b.few);
+      playable = λ i u. active-each from (from + n) (Playable f) (streams_in bookings) b.playable i (omega (arith, w.bookings));
       table = w;
       day = d;
     }
+
+-- bookings marked are those that a block is looked up in
+pub bookings-marked : (f : List ℕ) (xs : List Stream) (bookings : List Marked) → bookings ≡ map (marked_of f) xs → length xs ≤ max_bookings
+    → EachOf (Playable f) xs → Bookings f bookings
+bookings-marked f xs bookings e few playable =
+    let same = streams-marked f xs bookings e in
+    record { few = omega (arith, ap length e, length-map xs (marked_of f)); playable = rw same playable; marked = rw same e }
+
+-- one that begins after the rounds, and one that does not
+pub between-late : (from to : ℕ) (x : Stream) → to ≤ x.start → false ≡ open_between from to x
+unfolding open_between
+between-late from to x h = rw (le-ltb x.start to h)
+
+pub between-from : (from to : ℕ) (x : Stream) → x.start < to → ltb from (end_of x) ≡ open_between from to x
+unfolding open_between
+between-from from to x h = rw (lt-ltb x.start to h)
+
+-- in a block of one round: those open in it
+pub between-one : (t : ℕ) (x : Stream) → open_between t (t + 1) x ≡ open_in t x
+unfolding open_between open_in
+between-one t x = ap (λ (v : Bool). v && ltb t (end_of x)) (same (leb x.start t) refl)
+  where
+    same : (v : Bool) → leb x.start t ≡ v → ltb x.start (t + 1) ≡ leb x.start t
+    same true e = lt-ltb x.start (t + 1) (omega (arith, leb-true x.start t e)) ∙ sym e
+    same false e = le-ltb x.start (t + 1) (omega (arith, leb-false x.start t e)) ∙ sym e
+
+module _ (from to : ℕ) where
+  -- no more than there are
+  pub active-few : (xs : List Stream) → length (active from to xs) ≤ length xs
+  active-few [] = omega arith
+  active-few (x ∷ xs) = go (open_between from to x) (active-few xs)
+    where
+      go : (o : Bool) → length (active from to xs) ≤ length xs → length (cond o (x ∷ active from to xs) (active from to xs)) ≤ suc (length xs)
+      go true e = omega arith
+      go false e = omega arith

@@ -1,12 +1,13 @@
 -- A block of coming rounds: the bookings open in one of them, and a row of words for each.
-use Rattle.std.specs.Prelude.{◌≡◌, Bool, cond, ◌&&◌, List, [], ◌∷◌, ℕ, ◌+◌, ◌*◌, ◌≤◌, ◌<◌, ltb, length, get_or, take}
+use Rattle.std.specs.Prelude.{◌≡◌, Bool, ◌&&◌, List, ◌∷◌, ℕ, ◌+◌, ◌*◌, ◌≤◌, ◌<◌, ltb, length, get_or, take, map, filter}
 use Rattle.limits.specs.Bounds.{max_bookings, max_day}
 use Rattle.model.specs.Calls.{per_round}
 use Rattle.load.specs.Basic.{Playable, EachOf}
 use Rattle.load.specs.Stream.{no_stream, end_of, holds_in}
 use Rattle.load.specs.declared.stream.Stream.{Stream}
-use Rattle.rounds.specs.Table.{rows_of, Marked}
+use Rattle.rounds.specs.Table.{rows_of, marked_of, streams_in}
 use Rattle.rounds.specs.declared.block.Block.{Block}
+use Rattle.rounds.specs.declared.marks.Marked.{Marked}
 
 -- open in one of the rounds from `from` to `to` - 1
 unfoldable pub open_between : ℕ → ℕ → Stream → Bool
@@ -14,8 +15,7 @@ open_between from to x = ltb x.start to && ltb from (end_of x)
 
 -- the bookings that are, in their order
 abbrev pub active : ℕ → ℕ → List Stream → List Stream
-active from to [] = []
-active from to (x ∷ xs) = cond (open_between from to x) (x ∷ active from to xs) (active from to xs)
+active from to xs = filter (open_between from to) xs
 
 -- ---- the row of a booking
 
@@ -56,10 +56,10 @@ pub record BlockOf (f : List ℕ) (ys : List Stream) (b : Block) (words : List �
 -- ---- what is asked
 
 -- bookings that can be played, with their marks
-pub record Bookings (f : List ℕ) (xs : List Stream) (count : ℕ) (marks : List ℕ) : Type 0 where
-  pub few : count ≤ max_bookings
-  pub playable : EachOf (Playable f) count xs
-  pub marked : Marked f xs count marks
+pub record Bookings (f : List ℕ) (bookings : List Marked) : Type 0 where
+  pub few : length bookings ≤ max_bookings
+  pub playable : EachOf (Playable f) (streams_in bookings)
+  pub marked : bookings ≡ map (marked_of f) (streams_in bookings)
 
 -- ---- a block that begins with round `from`
 

@@ -45,9 +45,9 @@ pub record FirstSummed (f : List ℕ) (xs : List Stream) (k : ℕ) (opens₀ res
   pub held : (take k helds ≡ per_round (λ t. held_in f t xs) 0 k) × (drop k helds ≡ drop k helds₀)
 
 -- what is asked: bookings that can be played, and places for the rounds
-pub record Summable (f : List ℕ) (xs : List Stream) (count from to : ℕ) (opens reserves helds : List ℕ) : Type 0 where
-  pub few : count ≤ max_bookings
-  pub playable : EachOf (Playable f) count xs
+pub record Summable (f : List ℕ) (xs : List Stream) (from to : ℕ) (opens reserves helds : List ℕ) : Type 0 where
+  pub few : length xs ≤ max_bookings
+  pub playable : EachOf (Playable f) xs
   pub order : from ≤ to
   pub day : to ≤ max_day
   pub places : Places to opens reserves helds

@@ -1,6 +1,6 @@
 -- The sheet, round by round and block by block. `first-summed` is #107's sentence. Assumes nothing.
 use Rattle.std.specs.Prelude.{◌≡◌, refl, List, ◌∷◌, ◌++◌, ℕ, zero, suc, ◌+◌, ◌-◌, ◌≤◌, ◌<◌, length, set, take, drop}
-use Rattle.std.proofs.Common.{sym, ap, ap₂, ◌∙◌, append-nil, append_assoc, add-one, arith, take-append-drop, length-append, length-drop, take_at, drop_at, drop-drop, length-take-le}
+use Rattle.std.proofs.Common.{sym, ap, ap₂, ◌∙◌, append_assoc, add-one, arith, length-append, length-drop, take_at, drop_at, drop-drop, length-take-le, append-nil, take-append-drop}
 use Rattle.std.proofs.lemmas.List.{set_split}
 use Rattle.std.proofs.Math.Seq.{append_snoc, drop-append-add}
 use Rattle.model.specs.Calls.{per_round, worked_out}
@@ -58,10 +58,6 @@ module _ (a b : ℕ) (g : ℕ → ℕ) (l : List ℕ) (order : a ≤ b) (room : 
       (ap (λ (n : ℕ). per_round g a (b - a) ++ per_round g n (c - b)) middle ∙ per_round-then g a (b - a) (c - b) ∙ ap (per_round g a) whole) in
       rw (take_at p (drop b l) b front, back, rounds)
 
--- no round
-worked-none : (a : ℕ) (g : ℕ → ℕ) (l : List ℕ) → l ≡ worked a a g l
-worked-none a g l = let e : a - a ≡ 0 = omega arith in rw (e, append-nil) (sym (take-append-drop a l))
-
 -- one round more
 worked-next : (a t : ℕ) (g : ℕ → ℕ) (l : List ℕ) (v : ℕ) (m : List ℕ) → a ≤ t → t < length l → m ≡ worked a t g l → v ≡ g t
     → set m t v ≡ worked a (t + 1) g l
@@ -76,14 +72,6 @@ worked-next a t g l v m p h e q =
 -- ---- the three lists
 
 module _ (s : ℕ → Sums) (from : ℕ) (o₀ r₀ h₀ : List ℕ) where
-  pub summed-none : Summed s from from o₀ r₀ h₀ o₀ r₀ h₀
-  summed-none =
-      record {
-        films = worked-none from (λ t. (s t).films) o₀;
-        reserved = worked-none from (λ t. (s t).reserves) r₀;
-        held = worked-none from (λ t. (s t).held) h₀;
-      }
-
   module _ (t : ℕ) (o r h : List ℕ) (w : Summed s from t o₀ r₀ h₀ o r h) (order : from ≤ t) where
     -- one round more
     pub summed-next : (T : ℕ) (v : Sums) → Places T o₀ r₀ h₀ → t < T → v ≡ s t
@@ -114,6 +102,18 @@ module _ (s : ℕ → Sums) (from : ℕ) (o₀ r₀ h₀ : List ℕ) where
             q ∙ worked_same t e (λ k. g (z k)) (λ k. g (s k)) l k (λ j u v. ap g (same j u v))
             ∙ ap (worked t e (λ k. g (s k))) d
             ∙ worked_then from t (λ k. g (s k)) l₀ order (omega arith) e k
+
+  -- the lists keep their places
+  pub summed-places : (t T : ℕ) (o r h : List ℕ) → from ≤ t → t ≤ T → Places T o₀ r₀ h₀ → Summed s from t o₀ r₀ h₀ o r h → Places T o r h
+  summed-places t T o r h order within p w =
+      record {
+        opens-places = omega (arith, p.opens-places, long o₀ o (λ k. (s k).films) p.opens-places w.films);
+        reserves-places = omega (arith, p.reserves-places, long r₀ r (λ k. (s k).reserves) p.reserves-places w.reserved);
+        helds-places = omega (arith, p.helds-places, long h₀ h (λ k. (s k).held) p.helds-places w.held);
+      }
+    where
+      long : (l₀ l : List ℕ) (g : ℕ → ℕ) → T ≤ length l₀ → l ≡ worked from t g l₀ → length l ≡ length l₀
+      long l₀ l g room e = ap length e ∙ worked-length from t g l₀ order (omega arith)
 
 -- the sums of each round are those of the bookings
 pub summed-sheet : (f : List ℕ) (xs : List Stream) (from to : ℕ) (o₀ r₀ h₀ o r h : List ℕ) → from ≤ to
@@ -169,3 +169,16 @@ sheet-model f xs T opened reserved held x y z o₀ r₀ h₀ o r h w =
   where
     whole : (g k : ℕ → ℕ) → ((t : ℕ) → g t ≡ k t) → (l l' : List ℕ) → l' ≡ worked 0 T g l → l' ≡ worked_out T k l
     whole g k same l l' e = e ∙ worked_same 0 T g k l (omega arith) (λ t u v. same t) ∙ worked-out T k l
+
+-- no round
+worked-none : (a : ℕ) (g : ℕ → ℕ) (l : List ℕ) → l ≡ worked a a g l
+worked-none a g l = let e : a - a ≡ 0 = omega arith in rw (e, append-nil) (sym (take-append-drop a l))
+
+module _ (s : ℕ → Sums) (from : ℕ) (o₀ r₀ h₀ : List ℕ) where
+  pub summed-none : Summed s from from o₀ r₀ h₀ o₀ r₀ h₀
+  summed-none =
+      record {
+        films = worked-none from (λ t. (s t).films) o₀;
+        reserved = worked-none from (λ t. (s t).reserves) r₀;
+        held = worked-none from (λ t. (s t).held) h₀;
+      }

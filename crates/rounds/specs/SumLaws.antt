@@ -5,19 +5,20 @@ use Rattle.std.proofs.Common.{sym, ap, ap₂, ◌∙◌, add-one, drop-cons, get
 use Rattle.std.proofs.Math.Bool.{true, false, cond}
 use native.Mathlib.Omega.{arith}
 use Rattle.std.proofs.Math.Seq.{drop-length}
-use borrow.Author.Tests.{lt-ltb, le-ltb, le-leb, lt-leb}
 use Rattle.limits.specs.Bounds.{max_bookings, max_reserve}
 use Rattle.retrieval.specs.Stored.{max_held}
 use Rattle.model.proofs.CodeLaws.{per_round-at}
 use Rattle.load.specs.Stream.{no_stream, open_in, profile_of, holds_in, open_count, reserved_in, held_in}
+use Rattle.load.specs.StreamLaws.{cond-most}
 use Rattle.load.specs.declared.stream.Stream.{Stream}
 use Rattle.rounds.specs.Rows.{open_between, active, head_words, head_of, helds_of, row_of, BlockOf}
 use Rattle.rounds.specs.RowLaws.{between-shut, row_word}
 use Rattle.rounds.specs.CarryLaws.{holds-most}
-use Rattle.rounds.specs.Sums.{head_from, head_at, open_head, none, added, with_one, sums_from, RoomFor}
+use Rattle.rounds.specs.Sums.{head_from, head_at, open_head, added, with_one, sums_from, RoomFor, none}
 use Rattle.rounds.specs.declared.block.Block.{Block}
 use Rattle.rounds.specs.declared.sums.Head.{Head}
 use Rattle.rounds.specs.declared.sums.Sums.{Sums}
+use borrow.Author.Tests.{lt-ltb, le-ltb, le-leb, lt-leb}
 
 -- ---- one booking more
 
@@ -26,18 +27,6 @@ unfolding open_head open_in
 open-head t x = refl
 
 module _ (t : ℕ) (s : Sums) (h : Head) (held : ℕ) where
-  pub one-early : t < h.start → s ≡ with_one t s h held
-  unfolding with_one open_head
-  one-early e = rw (lt-leb h.start t e)
-
-  pub one-late : h.start ≤ t → h.end ≤ t → s ≡ with_one t s h held
-  unfolding with_one open_head
-  one-late e l = rw (le-leb h.start t e, le-ltb t h.end l)
-
-  pub one-open : h.start ≤ t → t < h.end → with_one t s h held ≡ added t s h held
-  unfolding with_one open_head
-  one-open e l = rw (le-leb h.start t e, lt-ltb t h.end l)
-
   one-shut : open_head t h ≡ false → with_one t s h held ≡ s
   unfolding with_one
   one-shut o = rw o
@@ -114,13 +103,6 @@ pub record Within (s : Sums) (i : ℕ) : Type 0 where
   pub reserves : s.reserves ≤ max_reserve * i
   pub held : s.held ≤ max_held * i
 
-pub within_none : Within none 0
-within_none = record { films = omega arith; reserves = omega arith; held = omega arith }
-
-cond-least : (o : Bool) (a m : ℕ) → a ≤ m → cond o a 0 ≤ m
-cond-least true a m h = h
-cond-least false a m h = omega arith
-
 module _ (t : ℕ) (s : Sums) (i : ℕ) (h : Head) (held : ℕ) (w : Within s i) (r : h.reserve ≤ max_reserve) (k : held ≤ max_held) where
   pub within-room : i < max_bookings → RoomFor s h held
   within-room u = record { films = omega (arith, w.films); reserves = omega (arith, w.reserves); held = omega (arith, w.held) }
@@ -128,9 +110,9 @@ module _ (t : ℕ) (s : Sums) (i : ℕ) (h : Head) (held : ℕ) (w : Within s i)
   pub within-next : Within (with_one t s h held) (i + 1)
   within-next =
       record {
-        films = omega (arith, w.films, one-films t s h held, cond-least (open_head t h) 1 1 (omega arith));
-        reserves = omega (arith, w.reserves, one-reserves t s h held, cond-least (open_head t h) h.reserve max_reserve r);
-        held = omega (arith, w.held, one-held t s h held, cond-least (open_head t h) held max_held k);
+        films = omega (arith, w.films, one-films t s h held, cond-most (open_head t h) 1 1 (omega arith));
+        reserves = omega (arith, w.reserves, one-reserves t s h held, cond-most (open_head t h) h.reserve max_reserve r);
+        held = omega (arith, w.held, one-held t s h held, cond-most (open_head t h) held max_held k);
       }
 
 -- ---- the rows of a block
@@ -176,3 +158,19 @@ module _ (f : List ℕ) (ys : List Stream) (b : Block) (words : List ℕ) (w : B
 -- and its end
 pub block-end : (f : List ℕ) (t : ℕ) (s : Sums) (ys : List Stream) (i : ℕ) → i ≡ length ys → sums_from f t s (drop i ys) ≡ s
 block-end f t s ys i e = rw (e, drop-length ys)
+
+module _ (t : ℕ) (s : Sums) (h : Head) (held : ℕ) where
+  pub one-early : t < h.start → s ≡ with_one t s h held
+  unfolding with_one open_head
+  one-early e = rw (lt-leb h.start t e)
+
+  pub one-late : h.start ≤ t → h.end ≤ t → s ≡ with_one t s h held
+  unfolding with_one open_head
+  one-late e l = rw (le-leb h.start t e, le-ltb t h.end l)
+
+  pub one-open : h.start ≤ t → t < h.end → with_one t s h held ≡ added t s h held
+  unfolding with_one open_head
+  one-open e l = rw (le-leb h.start t e, lt-ltb t h.end l)
+
+pub within_none : Within none 0
+within_none = record { films = omega arith; reserves = omega arith; held = omega arith }

@@ -1,8 +1,9 @@
--- Words of workspace: a row of words for each of some bookings, one after the other.
-use Rattle.std.specs.Prelude.{◌≡◌, List, [], ◌∷◌, ◌++◌, ℕ, ◌+◌, ◌*◌, ◌≤◌, ◌<◌, length, get_or, take}
+-- Words of workspace: a row of words for each of some bookings, one after the other; and the marks of a booking.
+use Rattle.std.specs.Prelude.{List, [], ◌∷◌, ◌++◌, ℕ, ◌+◌, ◌*◌, map}
 use Rattle.model.specs.Calls.{per_round}
-use Rattle.load.specs.Stream.{carry_from}
+use Rattle.load.specs.Stream.{no_stream, carry_from}
 use Rattle.load.specs.declared.stream.Stream.{Stream}
+use Rattle.rounds.specs.declared.marks.Marked.{Marked}
 
 -- the rows of these bookings
 abbrev pub rows_of : (Stream → List ℕ) → List Stream → List ℕ
@@ -27,12 +28,14 @@ mark_of f x j = carry_from f (x.start + mark_rounds * j) x
 unfoldable pub marks_of : List ℕ → Stream → List ℕ
 marks_of f x = per_round (mark_of f x) 0 mark_count
 
--- the marks of x stand from place `at` on
-pub record MarkedAt (f : List ℕ) (x : Stream) (at : ℕ) (marks : List ℕ) : Type 0 where
-  pub room : at + mark_count ≤ length marks
-  pub mark : (j : ℕ) → j < mark_count → get_or marks (at + j) 0 ≡ mark_of f x j
+-- the booking with them
+abbrev pub marked_of : List ℕ → Stream → Marked
+marked_of f x = record { stream = x; carries = marks_of f x }
 
--- the marks of the first n bookings
-pub record Marked (f : List ℕ) (xs : List Stream) (n : ℕ) (marks : List ℕ) : Type 0 where
-  pub room : mark_count * n ≤ length marks
-  pub rows : take (mark_count * n) marks ≡ rows_of (marks_of f) (take n xs)
+-- a place with no booking
+abbrev pub no_marked : Marked
+no_marked = record { stream = no_stream; carries = [] }
+
+-- the bookings of a list with their marks
+abbrev pub streams_in : List Marked → List Stream
+streams_in bookings = map (λ (m : Marked). m.stream) bookings

@@ -1,16 +1,16 @@
 -- Rows of words: filled from the last word to the first, written one after the other, read by place. Assumes nothing.
-use Rattle.std.specs.Prelude.{◌≡◌, refl, List, [], ◌∷◌, ◌++◌, ℕ, zero, suc, ◌+◌, ◌-◌, ◌*◌, ◌≤◌, ◌<◌, length, get_or, set, take, drop}
-use Rattle.std.proofs.Common.{sym, ap, ◌∙◌, append-nil, append_assoc, mul-zero, mul-suc, mul-le-mul_left, add-one, arith, drop_of_length-le, drop_at, take_at, take-suc, length-take-le, get_or-take, get_or-append-add}
+use Rattle.std.specs.Prelude.{◌≡◌, refl, List, [], ◌∷◌, ◌++◌, ℕ, zero, suc, ◌+◌, ◌-◌, ◌*◌, ◌≤◌, ◌<◌, length, get_or, set, take, drop, map}
+use Rattle.std.proofs.Common.{sym, ap, ◌∙◌, append-nil, append_assoc, mul-zero, mul-suc, mul-le-mul_left, add-one, arith, drop_of_length-le, drop_at, take_at, length-take-le, get_or-take, get_or-append-add}
 use Rattle.std.proofs.Math.ListN.{get_or-append}
-use Rattle.std.proofs.lemmas.List.{set_split}
+use Rattle.std.proofs.lemmas.List.{set_split, length-map, get_or-map}
 use Rattle.std.proofs.Math.Seq.{take-append-add}
 use borrow.Rule.Slice.PartMut.{mid_of, put_mid, same_len_mid, mid_len}
 use Rattle.model.specs.Calls.{per_round}
-use Rattle.model.proofs.PlacesLaws.{length-per_round}
 use Rattle.model.proofs.CodeLaws.{per_round-at}
 use Rattle.load.specs.Stream.{no_stream}
 use Rattle.load.specs.declared.stream.Stream.{Stream}
-use Rattle.rounds.specs.Table.{rows_of, mark_count, mark_of, marks_of, MarkedAt, Marked}
+use Rattle.rounds.specs.Table.{rows_of, mark_count, mark_of, marks_of, marked_of, streams_in, no_marked}
+use Rattle.rounds.specs.declared.marks.Marked.{Marked}
 
 -- ---- words from place k on are g of their places, counted from a
 
@@ -94,37 +94,31 @@ module _ (row : Stream → List ℕ) (size : ℕ) (long : (x : Stream) → lengt
 
 -- ---- marks
 
-marks-long : (f : List ℕ) (x : Stream) → length (marks_of f x) ≡ mark_count
-unfolding marks_of
-marks-long f x = length-per_round (mark_of f x) 0 mark_count
-
-mark-at : (f : List ℕ) (x : Stream) (j : ℕ) → j < mark_count → get_or (marks_of f x) j 0 ≡ mark_of f x j
+-- the first mark, and any other
+pub mark-at : (f : List ℕ) (x : Stream) (j : ℕ) → j < mark_count → get_or (marks_of f x) j 0 ≡ mark_of f x j
 unfolding marks_of
 mark-at f x j h = per_round-at (mark_of f x) 0 mark_count j h ∙ ap (mark_of f x) (omega arith)
 
-pub marked-none : (f : List ℕ) (xs : List Stream) (marks : List ℕ) → Marked f xs 0 marks
-marked-none f xs marks = record { room = omega arith; rows = refl }
+-- ---- bookings with their marks
 
-pub marked_next : (f : List ℕ) (xs : List Stream) (n : ℕ) (marks part : List ℕ) → Marked f xs n marks → n < length xs
-    → mark_count * n + mark_count ≤ length marks → part ≡ marks_of f (get_or xs n no_stream)
-    → Marked f xs (n + 1) (put_mid (mark_count * n) (mark_count * n + mark_count - mark_count * n) marks part)
-marked_next f xs n marks part m h l q =
-    record {
-      room = omega (arith, put-long (mark_count * n) mark_count marks part l (ap length q ∙ marks-long f (get_or xs n no_stream)));
-      rows =
-          words-next (marks_of f) mark_count (marks-long f) marks (take n xs) n m.rows (get_or xs n no_stream) part l q
-          ∙ ap (rows_of (marks_of f)) (sym (ap (λ (k : ℕ). take k xs) (add-one n) ∙ take-suc xs n no_stream h));
-    }
+pub streams-marked : (f : List ℕ) (xs : List Stream) (ms : List Marked) → ms ≡ map (marked_of f) xs → streams_in ms ≡ xs
+streams-marked f xs ms e = ap streams_in e ∙ go xs
+  where
+    go : (ys : List Stream) → streams_in (map (marked_of f) ys) ≡ ys
+    go [] = refl
+    go (y ∷ ys) = ap (λ (l : List Stream). y ∷ l) (go ys)
 
--- the marks of one of them
-pub marked-at : (f : List ℕ) (xs : List Stream) (n : ℕ) (marks : List ℕ) (i : ℕ) → Marked f xs n marks → n ≤ length xs → i < n
-    → MarkedAt f (get_or xs i no_stream) (mark_count * i) marks
-marked-at f xs n marks i m h l =
-    record {
-      room = omega (arith, m.room);
-      mark =
-          λ j u.
-          words-at (marks_of f) mark_count (marks-long f) marks (take n xs) n m.rows (sym (length-take-le n xs h)) i j l u
-          ∙ ap (λ (x : Stream). get_or (marks_of f x) j 0) (get_or-take n xs i no_stream l)
-          ∙ mark-at f (get_or xs i no_stream) j u;
-    }
+-- the bookings without their marks, one by one
+pub streams-at : (ms : List Marked) (i : ℕ) → i < length ms → get_or (streams_in ms) i no_stream ≡ (get_or ms i no_marked).stream
+streams-at ms i h = get_or-map (λ (m : Marked). m.stream) ms i no_marked no_stream h
+
+pub streams-long : (ms : List Marked) → length (streams_in ms) ≡ length ms
+streams-long ms = length-map ms (λ (m : Marked). m.stream)
+
+-- and with them
+pub marked-at : (f : List ℕ) (ms : List Marked) (i : ℕ) → ms ≡ map (marked_of f) (streams_in ms) → i < length ms
+    → get_or ms i no_marked ≡ marked_of f (get_or ms i no_marked).stream
+marked-at f ms i e h =
+    ap (λ (l : List Marked). get_or l i no_marked) e
+    ∙ get_or-map (marked_of f) (streams_in ms) i no_stream no_marked (omega (arith, streams-long ms))
+    ∙ ap (marked_of f) (streams-at ms i h)

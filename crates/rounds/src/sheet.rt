@@ -1,52 +1,44 @@
 // The day sheet, summed round by round: films open, sum of reserves and sum of bytes held.
-ghost use Rattle.std.specs.Prelude.{◌+◌, take};
+ghost use Rattle.std.specs.Prelude.{◌+◌};
+ghost use Rattle.model.specs.Code.{SameLists};
 ghost use Rattle.rounds.specs.Sums.{IsBlock};
 ghost use Rattle.rounds.specs.Sheet.{Places, BlockSummed, SheetOf, Summable};
 
 use crate::block::{BLOCK_WORDS, Block, look};
-use crate::marks::{MARK_WORDS, mark_streams};
+use crate::marks::mark_streams;
 use crate::sums::round_sums;
-use limits::bounds::MAX_BOOKINGS;
 use load::stream::Stream;
+use model::Sheet;
 
 // Writes the sums of the block's rounds, one round after the other.
-fn sum_block(words: &[u64], b: Block, opens: &mut [u64], reserves: &mut [u64], helds: &mut [u64])
-    requires { IsBlock b words.now × Places (b.from + b.rounds) opens.old reserves.old helds.old }
-    ensures { BlockSummed b words.now opens.old reserves.old helds.old opens.new reserves.new helds.new }
+fn sum_block(words: &[u64], b: Block, sheet: &mut Sheet<'_>)
+    requires { IsBlock b words.now × Places (b.from + b.rounds) sheet.old.opens.now sheet.old.reserves.now sheet.old.helds.now }
+    ensures summed { BlockSummed b words.now sheet.old.opens.now sheet.old.reserves.now sheet.old.helds.now sheet.new.opens.now sheet.new.reserves.now sheet.new.helds.now }
+    ensures lists { SameLists sheet.old sheet.new }
 {
-    let mut k = 0;
-    while k < b.rounds {
-        let s = round_sums(words, b, k);
+    for k in 0..b.rounds {
+        let sums = round_sums(words, b, k);
         let t = b.from + k;
-        opens[t] = s.films;
-        reserves[t] = s.reserves;
-        helds[t] = s.held;
-        k += 1;
+        sheet.opens[t] = sums.films;
+        sheet.reserves[t] = sums.reserves;
+        sheet.helds[t] = sums.held;
     }
 }
 
-// Sums the rounds from `from` to `to` - 1 of the first `count` bookings. Each place is written once, a round's before those of the
-// next; the places of other rounds are left as they are.
-pub fn sum_sheet(
-    file: &[u8],
-    xs: [Stream; MAX_BOOKINGS],
-    count: usize,
-    from: usize,
-    to: usize,
-    opens: &mut [u64],
-    reserves: &mut [u64],
-    helds: &mut [u64],
-)
-    requires { Summable file.now xs count from to opens.old reserves.old helds.old }
-    ensures { SheetOf file.now (take count xs) from to opens.old reserves.old helds.old opens.new reserves.new helds.new }
+// Sums the rounds from `from` to `to` - 1 of the bookings. Each place is written once, a round's before those of the next; the places
+// of other rounds are left as they are.
+pub fn sum_sheet(file: &[u8], xs: &[Stream], from: usize, to: usize, sheet: &mut Sheet<'_>)
+    requires { Summable file.now xs.now from to sheet.old.opens.now sheet.old.reserves.now sheet.old.helds.now }
+    ensures summed { SheetOf file.now xs.now from to sheet.old.opens.now sheet.old.reserves.now sheet.old.helds.now sheet.new.opens.now sheet.new.reserves.now sheet.new.helds.now }
+    ensures lists { SameLists sheet.old sheet.new }
 {
-    let mut marks = [0u64; MARK_WORDS];
-    mark_streams(file, xs, count, &mut marks);
-    let mut words = [0u64; BLOCK_WORDS];
+    let bookings = mark_streams(file, xs);
+    let mut words = [0; BLOCK_WORDS];
     let mut t = from;
+    // Block by block: how many rounds a block has is known once it is looked up.
     while t < to {
-        let b = look(file, xs, count, &marks, t, to, &mut words);
-        sum_block(&words, b, opens, reserves, helds);
+        let b = look(file, &bookings, t, to, &mut words);
+        sum_block(&words, b, sheet);
         t += b.rounds;
     }
 }

@@ -1,4 +1,3 @@
 -- Definitions of the test programs' scripts.
 pub mod Checksum
-pub mod Counts
 pub mod Operands

@@ -1,54 +1,28 @@
 // The film file of a script: the first bytes of a buffer that operations write. What an operation would write past the
 // buffer's end is left out.
-ghost use Rattle.std.specs.Prelude.{◌≡◌, ◌-◌, ◌<◌, ◌≤◌, min};
-ghost use Rattle.script.specs.Counts.{IsPrefixLen};
+ghost use Rattle.std.specs.Prelude.{◌≡◌, take};
 
-use crate::operands::{u8_at, u16_at, u32_at};
+use crate::operands::Operation;
 
 // bytes of the buffer: the largest legal film file and one byte more
 pub const BUFFER: usize = 1048839;
 
-// opcodes
-const LEN: u64 = 1;
+// opcodes: numbers, as they stand in a script, and each program adds its own
+const LEN: u8 = 1;
 
-const POKE: u64 = 2;
+const POKE: u8 = 2;
 
-const FILL: u64 = 3;
+const FILL: u8 = 3;
 
-const PUT: u64 = 4;
+const PUT: u8 = 4;
 
-const COPY: u64 = 9;
+const COPY: u8 = 9;
 
-// The smaller of two.
-fn smaller(a: usize, b: usize) -> usize
-    ensures { (result ≡ min a b) × (result ≤ a) × (result ≤ b) }
+// The first elements of a list: as many as a script asks for, and at most all.
+pub fn prefix<T>(list: &[T], length: usize) -> &[T]
+    ensures { result.now ≡ take length list.now }
 {
-    if a < b { a } else { b }
-}
-
-// How many bytes of the buffer are the film file: the length that a script gives, and at most all. The contract has the two
-// facts that lending the buffer's first bytes asks for.
-pub fn file_length(bytes: &[u8], length: usize) -> usize
-    ensures { IsPrefixLen result bytes.now }
-{
-    smaller(length, bytes.len())
-}
-
-// The same for a list of numbers, of which a script lends the first places.
-pub fn list_length(places: &[u64], length: usize) -> usize
-    ensures { IsPrefixLen result places.now }
-{
-    smaller(length, places.len())
-}
-
-// How many of `count` places from a position on a list of some length has.
-fn room(count: usize, length: usize, at: usize) -> usize
-    ensures { (result ≤ count) × (result ≤ length - at) }
-{
-    if length <= at {
-        return 0;
-    }
-    smaller(count, length - at)
+    &list[..length.min(list.len())]
 }
 
 fn poke(bytes: &mut [u8], position: usize, value: u8) {
@@ -58,66 +32,65 @@ fn poke(bytes: &mut [u8], position: usize, value: u8) {
 }
 
 fn fill(bytes: &mut [u8], from: usize, to: usize, value: u8) {
-    let end = smaller(to, bytes.len());
-    let mut i = from;
-    while i < end {
-        bytes[i] = value;
-        i += 1;
+    let end = to.min(bytes.len());
+    if from < end {
+        bytes[from..end].fill(value);
     }
 }
 
-fn put(bytes: &mut [u8], position: usize, script: &[u8], at: usize, count: usize)
-    requires { count < 65536 }
-{
-    let n = room(count, bytes.len(), position);
-    let mut i = 0;
-    while i < n {
-        bytes[position + i] = u8_at(script, at, 7 + i) as u8;
-        i += 1;
+fn put(bytes: &mut [u8], position: usize, operation: Operation<'_>) {
+    let count = usize::from(operation.u16(5));
+    for (i, byte) in bytes.iter_mut().skip(position).take(count).enumerate() {
+        *byte = operation.u8(7 + i);
     }
 }
 
-// Byte after byte in rising order, so that an overlapping copy repeats.
+// Byte after byte in rising order, so that an overlapping copy repeats: `copy_within` would not.
 fn copy(bytes: &mut [u8], from: usize, to: usize, count: usize) {
-    let n = room(room(count, bytes.len(), from), bytes.len(), to);
-    let mut i = 0;
-    while i < n {
+    let room = bytes.len().saturating_sub(from.max(to));
+    for i in 0..count.min(room) {
         bytes[to + i] = bytes[from + i];
-        i += 1;
     }
 }
 
-// Carries out the operation at a position if it is one of the buffer's. Gives the file's length after it.
-pub fn carry_out(script: &[u8], at: usize, bytes: &mut [u8], length: usize) -> usize {
-    let first = u32_at(script, at, 1) as usize;
-    match u8_at(script, at, 0) {
-        LEN => return first,
-        POKE => poke(bytes, first, u8_at(script, at, 5) as u8),
-        FILL => fill(
-            bytes,
-            first,
-            u32_at(script, at, 5) as usize,
-            u8_at(script, at, 9) as u8,
-        ),
-        PUT => put(bytes, first, script, at, u16_at(script, at, 5) as usize),
-        COPY => copy(
-            bytes,
-            first,
-            u32_at(script, at, 5) as usize,
-            u32_at(script, at, 9) as usize,
-        ),
-        _ => {}
-    }
-    length
+// A script's film file: the first `length` bytes of the buffer.
+#[derive(Drop)]
+pub struct FilmBuffer<'a> {
+    pub bytes: &'a mut [u8],
+    pub length: usize,
 }
 
-// Bytes of the operands of the operation at a position, 0 where it is none of the buffer's.
-pub fn operands(script: &[u8], at: usize) -> usize {
-    match u8_at(script, at, 0) {
+impl FilmBuffer<'_> {
+    // The film file, which has at most all bytes of the buffer.
+    pub fn file(&self) -> &[u8]
+        ensures { result.now ≡ take self.now.length self.now.bytes.now }
+    {
+        prefix(&*self.bytes, self.length)
+    }
+
+    // Carries out an operation if it is one of the buffer's.
+    pub fn carry_out(&mut self, operation: Operation<'_>) {
+        let first = operation.u32(1) as usize;
+        let second = operation.u32(5) as usize;
+        let bytes = &mut *self.bytes;
+        match operation.opcode() {
+            LEN => self.length = first,
+            POKE => poke(bytes, first, operation.u8(5)),
+            FILL => fill(bytes, first, second, operation.u8(9)),
+            PUT => put(bytes, first, operation),
+            COPY => copy(bytes, first, second, operation.u32(9) as usize),
+            _ => {}
+        }
+    }
+}
+
+// Bytes of the operands of an operation, 0 where it is none of the buffer's.
+pub fn operands(operation: Operation<'_>) -> usize {
+    match operation.opcode() {
         LEN => 4,
         POKE => 5,
         FILL => 9,
-        PUT => 6 + u16_at(script, at, 5) as usize,
+        PUT => 6 + usize::from(operation.u16(5)),
         COPY => 12,
         _ => 0,
     }

@@ -1,6 +1,5 @@
 // The checksum of a list of values.
-ghost use Rattle.std.specs.Prelude.{◌≡◌};
-ghost use Rattle.laws.specs.Fold.{fold};
+ghost use Rattle.std.specs.Prelude.{◌≡◌, fold};
 ghost use Rattle.script.specs.Checksum.{absorb};
 
 // the largest prime below 2^32, so that no step leaves 64 bits
@@ -20,11 +19,7 @@ pub fn absorb(sum: u64, value: u64) -> u64
 pub fn absorb_all(sum: u64, values: &[u64]) -> u64
     ensures { result ≡ fold absorb sum values.now }
 {
-    let mut total = sum;
-    let mut i = 0;
-    while i < values.len() {
-        total = absorb(total, values[i]);
-        i += 1;
-    }
-    total
+    values
+        .iter()
+        .fold(sum, |total, value| absorb(total, *value))
 }

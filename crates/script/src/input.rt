@@ -1,20 +1,16 @@
 // The bytes of an input.
-ghost use Rattle.std.specs.Io.{ReadsAtMost};
+ghost use Rattle.std.specs.Prelude.{◌≡◌, IfOk, IfSome, option_map, take};
 
+use crate::operands::MAX_SCRIPT;
+use arrayvec::ArrayVec;
 use std::io;
 use std::io::Read;
 
-// Reads until the buffer is full or the input ends, and gives how many bytes it put there.
-pub fn read_full<R: Read>(input: &mut R, bytes: &mut [u8]) -> io::Result<usize>
-    ensures { ReadsAtMost result bytes.new }
+// A script: the input's bytes, up to as many as a script may have.
+pub fn read<R: Read + Drop>(input: R) -> io::Result<ArrayVec<u8, MAX_SCRIPT>>
+    ensures { IfOk result (λ script. IfSome (option_map (take 131072) (R.remaining input)) (λ bytes. script.items ≡ bytes)) }
 {
-    let mut done = 0;
-    while done < bytes.len() {
-        let n = input.read(&mut bytes[done..])?;
-        if n == 0 {
-            return Ok(done);
-        }
-        done += n;
-    }
-    Ok(done)
+    let mut script = ArrayVec::new();
+    io::copy(&mut input.take(MAX_SCRIPT as u64), &mut script)?;
+    Ok(script)
 }

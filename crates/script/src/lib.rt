@@ -4,6 +4,7 @@
 
 pub mod buffer;
 pub mod checksum;
+pub mod film;
 pub mod input;
 pub mod line;
 pub mod operands;

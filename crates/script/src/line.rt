@@ -13,62 +13,52 @@ pub struct Line {
     pub begun: bool,
 }
 
-// A line with no number yet.
-pub fn begin(sum: u64, printed: bool) -> Line
-    ensures { result.sum ≡ sum }
-{
-    Line {
-        sum,
-        printed,
-        begun: false,
+impl Line {
+    // A line with no number yet.
+    pub fn begin(sum: u64, printed: bool) -> Line
+        ensures { result.sum ≡ sum }
+    {
+        Line {
+            sum,
+            printed,
+            begun: false,
+        }
     }
-}
 
-// Writes a number, after a space where another stands before it.
-fn write_number(rt: &impl Print, value: u64, begun: bool) -> io::Result<()> {
-    if begun {
-        rt.print(" ")?;
+    // The line with one number more, which the checksum takes in.
+    pub fn add(self, rt: &impl Print, value: u64) -> io::Result<Line>
+        ensures { IfOk result (λ r. r.sum ≡ absorb self.sum value) }
+    {
+        if self.printed && self.begun {
+            rt.print(" ")?;
+        }
+        if self.printed {
+            rt.print(value)?;
+        }
+        Ok(Line {
+            sum: absorb(self.sum, value),
+            begun: true,
+            ..self
+        })
     }
-    rt.print(value)
-}
 
-// The line with one number more, which the checksum takes in.
-pub fn add(rt: &impl Print, line: Line, value: u64) -> io::Result<Line>
-    ensures { IfOk result (λ r. r.sum ≡ absorb line.sum value) }
-{
-    if line.printed {
-        write_number(rt, value, line.begun)?;
+    // The line as it was, with a value that the checksum takes in unprinted.
+    pub fn hide(self, value: u64) -> Line
+        ensures { result.sum ≡ absorb self.sum value }
+    {
+        Line {
+            sum: absorb(self.sum, value),
+            ..self
+        }
     }
-    Ok(Line {
-        sum: absorb(line.sum, value),
-        printed: line.printed,
-        begun: true,
-    })
-}
 
-// The line as it was, with a value that the checksum takes in unprinted.
-pub fn hide(line: Line, value: u64) -> Line
-    ensures { result.sum ≡ absorb line.sum value }
-{
-    Line {
-        sum: absorb(line.sum, value),
-        printed: line.printed,
-        begun: line.begun,
+    // Ends the line. Gives its checksum.
+    pub fn end(self, rt: &impl Print) -> io::Result<u64>
+        ensures { IfOk result (λ sum. sum ≡ self.sum) }
+    {
+        if self.printed {
+            rt.print("\n")?;
+        }
+        Ok(self.sum)
     }
-}
-
-// Ends the line. Gives its checksum.
-pub fn end(rt: &impl Print, line: Line) -> io::Result<u64>
-    ensures { IfOk result (λ sum. sum ≡ line.sum) }
-{
-    if line.printed {
-        rt.print("\n")?;
-    }
-    Ok(line.sum)
-}
-
-// Prints one number on a line of its own.
-pub fn print(rt: &impl Print, value: u64) -> io::Result<()> {
-    write_number(rt, value, false)?;
-    rt.print("\n")
 }

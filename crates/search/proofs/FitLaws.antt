@@ -1,17 +1,15 @@
 -- What rules a start out, and what makes it fit. Assumes nothing.
-use Rattle.std.specs.Prelude.{◌≡◌, refl, Bool, true, false, cond, not, ◌&&◌, List, [], ◌∷◌, ℕ, suc, ◌+◌, ◌-◌, ◌≤◌, ◌<◌, length, get_or, take, ltb, eqb}
-use Rattle.std.proofs.Common.{sym, ◌∙◌, true≢false, arith, add-one, length-take-le, get_or-take, ltb-true, ltb-false, lt-ltb, le-ltb, eq-eqb, ne_eqb}
-use Rattle.std.proofs.Math.Decide.{dec_le}
-use Rattle.std.proofs.Math.Seq.{slice, slice-cons, slice_empty}
+use Rattle.std.specs.Prelude.{◌≡◌, refl, Some, None, find, Bool, true, false, cond, not, ◌&&◌, List, [], ◌∷◌, ℕ, suc, ◌+◌, ◌-◌, ◌≤◌, ◌<◌, min, max, eqb, length, get_or, take}
+use Rattle.std.proofs.Common.{sym, ◌∙◌, true≢false, arith, ltb-true, lt-ltb, length-take-le, get_or-take}
 use Rattle.std.specs.Int.Bits.{bit_and}
 use Rattle.std.proofs.lemmas.Bool.{not-true}
-use Rattle.limits.specs.Bounds.{max_day}
-use Rattle.laws.specs.Tests.{left, right, join, below, below_at, below_all, all}
-use Rattle.load.specs.Stream.{no_stream, length_of, end_of, clashes}
+use Rattle.laws.specs.Tests.{left, right, join, below, below_at, below_all}
+use Rattle.load.specs.Stream.{length_of, end_of, clashes, no_stream}
 use Rattle.load.specs.declared.stream.Stream.{Stream}
-use Rattle.search.specs.Fit.{Query, start_at, disk_free, memory_free, cabs_free, fits_at, HeldRows, DiskRows, EndInDay}
-use Rattle.search.specs.Search.{after_clash, after_clashes, NoneFits}
-use Rattle.search.specs.FitLaws.{Meet}
+use Rattle.search.specs.Fit.{Query, start_at, disk_free, memory_free, cabs_fit, cabs_free, fits_at, HeldRows, DiskRows, EndInDay}
+use Rattle.search.specs.Search.{NoneFits}
+use Rattle.std.proofs.Math.Decide.{dec_le}
+use Rattle.limits.specs.Bounds.{max_day}
 
 -- ---- a start, by its three tests
 
@@ -55,65 +53,57 @@ memory-rules-out q s j b h u l k e =
     let same : u ≡ s = omega arith in
     absurd (true≢false (sym (fits-memory q s (rw same at e) j h) ∙ b))
 
-clash-meet : (x y : Stream) (s : ℕ) → clashes x (start_at s y) ≡ true → Meet x y s
-unfolding clashes
-clash-meet x y s e = ltb-true _ _ (right (not (eqb (bit_and x.cabs y.cabs) 0)) e)
+module _ (x y : Stream) (s : ℕ) (e : clashes x (start_at s y) ≡ true) where
+  abbrev common : Bool
+  common = not (eqb (bit_and x.cabs y.cabs) 0)
 
-meet-clash : (x y : Stream) (s u : ℕ) → clashes x (start_at s y) ≡ true → Meet x y u → clashes x (start_at u y) ≡ true
-unfolding clashes
-meet-clash x y s u e m =
-    let common : Bool = not (eqb (bit_and x.cabs y.cabs) 0) in
-    let c : common ≡ true = left common _ e in
-    join c (lt-ltb _ _ m)
+  meets : max (x.start + x.prefetch) (s + y.prefetch) < min (end_of x) (s + y.prefetch + y.rounds)
+  unfolding clashes
+  meets = ltb-true _ _ (right common e)
 
--- the start that a clash leaves comes later, and y clashes with x at each start before it
-pub after-later : (x y : Stream) (s : ℕ) → clashes x (start_at s y) ≡ true → s < end_of x - y.prefetch
-after-later x y s e = let m = clash-meet x y s e in omega arith
+  -- the start that a clash leaves comes later
+  pub clash-later : s < end_of x - y.prefetch
+  clash-later = omega (arith, meets)
 
-after-clash : (x y : Stream) (s u : ℕ) → s ≤ u → u < after_clash x y s → clashes x (start_at u y) ≡ true
-unfolding after_clash
-after-clash x y s u h k = go (clashes x (start_at s y)) refl k
+  -- and the two clash at each start before it
+  clash-until : (u : ℕ) → s ≤ u → u < end_of x - y.prefetch → clashes x (start_at u y) ≡ true
+  unfolding clashes
+  clash-until u h k = join (left common _ e) (lt-ltb _ _ (omega (arith, meets)))
+
+-- where no stream of the list clashes, the cabs are free
+pub clashes-none : (xs : List Stream) (y : Stream) (s : ℕ) → find (λ x. clashes x (start_at s y)) xs ≡ None → cabs_fit xs y s ≡ true
+clashes-none [] y s e = refl
+clashes-none (x ∷ xs) y s e = go (clashes x (start_at s y)) e (clashes-none xs y s)
   where
-    go : (b : Bool) → clashes x (start_at s y) ≡ b → u < cond b (end_of x - y.prefetch) s → clashes x (start_at u y) ≡ true
-    go true e l = let m = clash-meet x y s e in meet-clash x y s u e (omega arith)
-    go false e l = absurd (omega arith)
+    go : (b : Bool) → cond b (Some x) (find (λ x. clashes x (start_at s y)) xs) ≡ None
+        → (find (λ x. clashes x (start_at s y)) xs ≡ None → cabs_fit xs y s ≡ true) → not b && cabs_fit xs y s ≡ true
+    go true e i = absurd cc
+    go false e i = i e
 
-after_none : (x y : Stream) (s : ℕ) → after_clash x y s ≤ s → not (clashes x (start_at s y)) ≡ true
-unfolding after_clash
-after_none x y s h = go (clashes x (start_at s y)) refl h
+-- the stream that is found clashes
+pub clashes-found : (xs : List Stream) (x y : Stream) (s : ℕ) → find (λ x. clashes x (start_at s y)) xs ≡ Some x → clashes x (start_at s y) ≡ true
+clashes-found [] x y s e = absurd cc
+clashes-found (z ∷ zs) x y s e = go (clashes z (start_at s y)) refl e (clashes-found zs x y s)
   where
-    go : (b : Bool) → clashes x (start_at s y) ≡ b → cond b (end_of x - y.prefetch) s ≤ s → not b ≡ true
-    go true e k = absurd (omega (arith, after-later x y s e))
-    go false e k = refl
+    go : (b : Bool) → clashes z (start_at s y) ≡ b → cond b (Some z) (find (λ x. clashes x (start_at s y)) zs) ≡ Some x
+        → (find (λ x. clashes x (start_at s y)) zs ≡ Some x → clashes x (start_at s y) ≡ true) → clashes x (start_at s y) ≡ true
+    go true c e i = let same : z ≡ x = cc in rw same at c
+    go false c e i = i e
 
--- where the next start is s itself, no stream of the list clashes
-pub clashes-none : (xs : List Stream) (y : Stream) (s : ℕ) → after_clashes xs y s ≤ s → all (λ x. not (clashes x (start_at s y))) xs ≡ true
-clashes-none [] y s h = refl
-clashes-none (x ∷ xs) y s h = go (ltb s (after_clash x y s)) refl h (clashes-none xs y s)
+-- and at each start before the one that a clash leaves the same stream clashes
+pub clashes-some : (xs : List Stream) (x y : Stream) (s u : ℕ) → find (λ x. clashes x (start_at s y)) xs ≡ Some x → s ≤ u
+    → u < end_of x - y.prefetch → cabs_fit xs y u ≡ true → ⊥
+clashes-some [] x y s u e h k f = absurd cc
+clashes-some (z ∷ zs) x y s u e h k f =
+    go (clashes z (start_at s y)) refl e (λ e. clashes-some zs x y s u e h k (right (not (clashes z (start_at u y))) f))
   where
-    rest : Bool
-    rest = all (λ z. not (clashes z (start_at s y))) xs
-
-    go : (b : Bool) → ltb s (after_clash x y s) ≡ b → cond b (after_clash x y s) (after_clashes xs y s) ≤ s
-        → (after_clashes xs y s ≤ s → rest ≡ true) → not (clashes x (start_at s y)) && rest ≡ true
-    go true e k i = absurd (omega (arith, ltb-true s (after_clash x y s) e))
-    go false e k i = join (after_none x y s (ltb-false s (after_clash x y s) e)) (i k)
-
--- and at each start before the next one the same stream clashes
-clashes-some : (xs : List Stream) (y : Stream) (s u : ℕ) → s ≤ u → u < after_clashes xs y s → all (λ x. not (clashes x (start_at u y))) xs ≡ true → ⊥
-clashes-some [] y s u h k e = absurd (omega arith)
-clashes-some (x ∷ xs) y s u h k e =
-    go (ltb s (after_clash x y s)) k (λ l. clashes-some xs y s u h l (right (not (clashes x (start_at u y))) e))
-  where
-    go : (b : Bool) → u < cond b (after_clash x y s) (after_clashes xs y s) → (u < after_clashes xs y s → ⊥) → ⊥
-    go true l i =
-        let c : clashes x (start_at u y) ≡ false = not-true _ (left _ _ e) in
-        absurd (true≢false (sym (after-clash x y s u h l) ∙ c))
-    go false l i = i l
-
--- a standing stream that clashes at s rules out every start until it has ended
-pub cabs-rule-out : (q : Query) (s : ℕ) → NoneFits q s (after_clashes q.standing q.stream s)
-cabs-rule-out q s u h k e = clashes-some q.standing q.stream s u h k (fits-cabs q u e)
+    go : (b : Bool) → clashes z (start_at s y) ≡ b → cond b (Some z) (find (λ x. clashes x (start_at s y)) zs) ≡ Some x
+        → (find (λ x. clashes x (start_at s y)) zs ≡ Some x → ⊥) → ⊥
+    go true c e i =
+        let same : z ≡ x = cc in
+        let l : u < end_of z - y.prefetch = rw same k in
+        true≢false (sym (clash-until z y s c u h l) ∙ not-true _ (left _ _ f))
+    go false c e i = i e
 
 -- ---- fewer rounds of a list
 
@@ -129,8 +119,6 @@ fewer-disk d h r =
       reserves-small = λ t k. r.reserves-small t (omega arith);
     }
 
--- ---- one round more from which on a test passes
-
 pub pass-more : (f : ℕ → Bool) (r e : ℕ) → ((t : ℕ) → r ≤ t → t < e → f t ≡ true) → f (r - 1) ≡ true
     → (t : ℕ) → r - 1 ≤ t → t < e → f t ≡ true
 pass-more f r e g h t k l = go (dec_le r t)
@@ -138,36 +126,6 @@ pass-more f r e g h t k l = go (dec_le r t)
     go : Dec (r ≤ t) → f t ≡ true
     go (yes m) = g t m l
     go (no m) = let same : r - 1 ≡ t = omega arith in rw same at h
-
--- ---- the start that a pair of streams leaves, by cases
-
-pub after-apart : (x y : Stream) (s : ℕ) → bit_and x.cabs y.cabs ≡ 0 → s ≡ after_clash x y s
-unfolding after_clash clashes
-after-apart x y s e = rw (eq-eqb (bit_and x.cabs y.cabs) 0 e)
-
-pub after-meets : (x y : Stream) (s : ℕ) → (bit_and x.cabs y.cabs ≡ 0 → ⊥) → Meet x y s → end_of x - y.prefetch ≡ after_clash x y s
-unfolding after_clash clashes
-after-meets x y s e m = rw (ne_eqb (bit_and x.cabs y.cabs) 0 e, lt-ltb _ _ m)
-
-pub after-misses : (x y : Stream) (s : ℕ) → (Meet x y s → ⊥) → s ≡ after_clash x y s
-unfolding after_clash
-after-misses x y s m = go (clashes x (start_at s y)) refl
-  where
-    go : (b : Bool) → clashes x (start_at s y) ≡ b → s ≡ cond b (end_of x - y.prefetch) s
-    go true e = absurd (m (clash-meet x y s e))
-    go false e = refl
-
--- the same of a list, one stream on
-pub clashes-stop : (xs : List Stream) (y d : Stream) (s i n : ℕ) → i < n → n ≤ length xs → s < after_clash (get_or xs i d) y s
-    → after_clash (get_or xs i d) y s ≡ after_clashes (slice i n xs) y s
-clashes-stop xs y d s i n h k l = rw (slice-cons i n xs d h k, lt-ltb _ _ l)
-
-pub clashes-next : (xs : List Stream) (y d : Stream) (s i n : ℕ) → i < n → n ≤ length xs → after_clash (get_or xs i d) y s ≤ s
-    → after_clashes (slice i n xs) y s ≡ after_clashes (slice (i + 1) n xs) y s
-clashes-next xs y d s i n h k l = rw (slice-cons i n xs d h k, le-ltb _ _ l, add-one)
-
-pub clashes-end : (xs : List Stream) (y : Stream) (s i n : ℕ) → i ≡ n → after_clashes (slice i n xs) y s ≡ s
-clashes-end xs y s i n e = rw (e, slice_empty)
 
 pub ends_at : (xs : List Stream) (n i : ℕ) → EndInDay (take n xs) → i < n → n ≤ length xs → end_of (get_or xs i no_stream) ≤ max_day
 ends_at xs n i e h k =

@@ -1,8 +1,8 @@
 -- The starts of a window, tried in order. Assumes nothing.
 use Rattle.std.specs.Prelude.{◌≡◌, refl, Bool, true, false, cond, ℕ, zero, suc, ◌+◌, ◌-◌, ◌≤◌, ◌<◌}
-use Rattle.std.proofs.Common.{sym, ap, ap₂, ◌∙◌, true≢false, arith}
+use Rattle.std.proofs.Common.{sym, ap, ◌∙◌, true≢false, arith, ap₂}
 use Rattle.std.proofs.Math.Decide.{dec_le}
-use Rattle.model.specs.Fit.{Found, nowhere, at, search, first_of}
+use Rattle.model.specs.Fit.{nowhere, at, search, first_of, Found}
 
 module _ (f : ℕ → Bool) where
   -- no number from a to e - 1 passes

@@ -1,14 +1,14 @@
 -- When a new stream fits at a start beside the standing ones, by the day sheet of those, and the first start of a window that
 -- fits. Document 01, 'A day at the desk': "In each round reserves + loss(films open) ≤ D and held ≤ M, and no cab shows two films."
-use Rattle.std.specs.Prelude.{Bool, not, ◌&&◌, List, ℕ, ◌+◌, ◌*◌, ◌^◌, ◌≤◌, ◌<◌, length, get_or, leb}
+use Rattle.std.specs.Prelude.{Option, Some, None, Bool, not, ◌&&◌, List, ℕ, ◌+◌, ◌*◌, ◌^◌, ◌≤◌, ◌<◌, length, get_or, leb}
 use Rattle.limits.specs.Bounds.{max_reserve, max_day, max_bookings}
 use Rattle.laws.specs.Tests.{below, all}
 use Rattle.loss.specs.Loss.{loss_at}
-use Rattle.load.specs.Stream.{no_stream, length_of, end_of, clashes}
+use Rattle.load.specs.Stream.{no_stream, length_of, end_of, clashes, profile_of}
 use Rattle.load.specs.declared.stream.Stream.{Stream}
-use Rattle.model.specs.Fit.{nowhere, at}
-use Rattle.search.specs.declared.Found.{Found}
-use Rattle.search.specs.declared.Found.TheVariants.{At, Nowhere}
+use Rattle.model.specs.Fit.{Found, nowhere, at}
+use Rattle.model.specs.declared.Day.{Day}
+use Rattle.model.specs.declared.Sheet.{Sheet}
 
 -- what a start is tried against: the new stream, what its schedule holds in each of its rounds, the standing streams, the
 -- three lists of their sheet by round, and the limits D and M
@@ -25,6 +25,11 @@ pub record Query : Type 0 where
 abbrev pub query_of : Stream → List ℕ → List Stream → List ℕ → List ℕ → List ℕ → ℕ → ℕ → Query
 query_of y profile xs opens reserves helds disk memory =
     record { stream = y; profile = profile; standing = xs; opens = opens; reserves = reserves; helds = helds; disk = disk; memory = memory }
+
+-- of the new stream y beside the streams xs, where it stands in the file f, on a day with its sheet
+abbrev pub query_in : List ℕ → List Stream → Stream → Day → Sheet → Query
+query_in f xs y day sheet =
+    query_of y (profile_of f y) xs sheet.opens.now sheet.reserves.now sheet.helds.now day.disk day.memory
 
 -- the stream with another start
 abbrev pub start_at : ℕ → Stream → Stream
@@ -60,9 +65,9 @@ fits_at q s =
     && (below (length_of q.stream) (λ j. memory_free q s j) && cabs_free q s)
 
 -- a start, or none, as the search gives it
-abbrev pub answer_of : Rattle.model.specs.Fit.Found → Found
-answer_of nowhere = Nowhere
-answer_of (at s) = At s
+abbrev pub answer_of : Found → Option ℕ
+answer_of nowhere = None
+answer_of (at s) = Some s
 
 -- ---- what the search asks of its caller
 

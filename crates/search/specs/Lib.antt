@@ -1,5 +1,4 @@
 -- The first start of a booking's window that fits, over streams and the sheet of the standing ones.
 pub mod Fit
 pub mod Search
-pub mod FitLaws
-pub mod ProfileLaws
+pub mod Seen

@@ -1,39 +1,25 @@
 -- What the steps of the search answer. The search walks upward through the starts; a start that does not fit rules out others,
 -- and the next one to try is the first that is not ruled out.
-use Rattle.std.specs.Prelude.{◌≡◌, Bool, true, false, cond, List, [], ◌∷◌, ℕ, ◌+◌, ◌-◌, ◌≤◌, ◌<◌, ltb}
+use Rattle.std.specs.Prelude.{◌≡◌, Bool, true, false, Option, MatchOption, option_map, find, ℕ, ◌+◌, ◌-◌, ◌≤◌, ◌<◌}
 use Rattle.limits.specs.Bounds.{max_reserve}
 use Rattle.load.specs.Stream.{length_of, end_of, clashes}
-use Rattle.load.specs.declared.stream.Stream.{Stream}
 use Rattle.search.specs.Fit.{Query, start_at, disk_free, fits_at, HeldRows, Window}
-use Rattle.search.specs.declared.window.Step.{Step}
-use Rattle.search.specs.declared.window.Step.TheVariants.{Fits, Next}
 
--- of the rounds a to e - 1, those from r on pass a test, and the one before r, if it is one of them, does not
-pub record PassFrom (f : ℕ → Bool) (a e r : ℕ) : Type 0 where
-  pub low : a ≤ r
-  pub high : r ≤ e
-  pub pass : (t : ℕ) → r ≤ t → t < e → f t ≡ true
-  pub blocked : a < r → f (r - 1) ≡ false
+-- the first number from a to e - 1 that fails a test
+abbrev pub FirstFails : (ℕ → Bool) → ℕ → ℕ → Option ℕ → Type 0
+FirstFails f a e r =
+    MatchOption r ((j : ℕ) → a ≤ j → j < e → f j ≡ true)
+    (λ i. (a ≤ i) × (i < e) × (f i ≡ false) × ((j : ℕ) → a ≤ j → j < i → f j ≡ true))
 
--- r is one of the numbers below n that fail a test, or n
-pub record Fails (f : ℕ → Bool) (n r : ℕ) : Type 0 where
-  pub within : r ≤ n
-  pub fails : r < n → f r ≡ false
+-- the last
+abbrev pub LastFails : (ℕ → Bool) → ℕ → ℕ → Option ℕ → Type 0
+LastFails f a e r =
+    MatchOption r ((j : ℕ) → a ≤ j → j < e → f j ≡ true)
+    (λ i. (a ≤ i) × (i < e) × (f i ≡ false) × ((j : ℕ) → i < j → j < e → f j ≡ true))
 
--- the first of them
-pub record FirstFails (f : ℕ → Bool) (n r : ℕ) : Type 0 where
-  pub within : r ≤ n
-  pub fails : r < n → f r ≡ false
-  pub before : (j : ℕ) → j < r → f j ≡ true
-
--- the first start from s on at which a stream y shows only after x has ended, where they clash at s, and s where they do not
-unfoldable pub after_clash : Stream → Stream → ℕ → ℕ
-after_clash x y s = cond (clashes x (start_at s y)) (end_of x - y.prefetch) s
-
--- the same for the first of a list that clashes with y at s, and s where none does
-abbrev pub after_clashes : List Stream → Stream → ℕ → ℕ
-after_clashes [] y s = s
-after_clashes (x ∷ xs) y s = cond (ltb s (after_clash x y s)) (after_clash x y s) (after_clashes xs y s)
+-- the first start at which the new stream shows only after a standing one has ended, the first that it clashes with from s on
+abbrev pub after_clash : Query → ℕ → Option ℕ
+after_clash q s = option_map (λ x. end_of x - q.stream.prefetch) (find (λ x. clashes x (start_at s q.stream)) q.standing)
 
 -- what the walk over a window asks
 pub record Walks (q : Query) (last : ℕ) : Type 0 where
@@ -55,8 +41,3 @@ pub record Skips (q : Query) (start next clear : ℕ) : Type 0 where
   pub later : start < next
   pub none : NoneFits q start next
   pub known : Clear q next clear
-
--- what is found out of a start: it fits, or the next one to try
-abbrev pub Tells : Query → ℕ → Step → Type 0
-Tells q start Fits = fits_at q start ≡ true
-Tells q start (Next c) = Skips q start c.start c.clear

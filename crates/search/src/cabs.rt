@@ -1,56 +1,37 @@
 // Streams that share a cab.
-ghost use Rattle.std.specs.Prelude.{◌≡◌, ◌+◌, ◌≤◌, ◌<◌, min, max, take};
-ghost use Rattle.limits.specs.Bounds.{max_day, max_bookings};
-ghost use Rattle.load.specs.Stream.{length_of, end_of};
-ghost use Rattle.search.specs.Fit.{EndInDay};
-ghost use Rattle.search.specs.Search.{after_clash, after_clashes};
+ghost use Rattle.std.specs.Prelude.{◌≡◌, ◌≤◌};
+ghost use Rattle.limits.specs.Bounds.{max_day};
+ghost use Rattle.load.specs.Stream.{end_of, clashes};
+ghost use Rattle.search.specs.Fit.{start_at};
+ghost use Rattle.search.specs.Search.{after_clash};
 
+use crate::query::Query;
 use load::stream::Stream;
+use std::cmp::{max, min};
 
-pub fn larger(a: usize, b: usize) -> usize
-    ensures { result ≡ max a b }
-{
-    if a < b { b } else { a }
-}
+impl Query<'_> {
+    ghost use Rattle.search.specs.Seen.{seen};
 
-fn smaller(a: usize, b: usize) -> usize
-    ensures { result ≡ min a b }
-{
-    if a < b { a } else { b }
-}
-
-// The first start from s on at which y shows only after x has ended, where they clash at s, and s where they do not.
-pub fn after_clash(x: Stream, y: Stream, s: usize) -> usize
-    requires { (end_of x ≤ max_day) × (s + length_of y ≤ max_day) }
-    ensures { result ≡ after_clash x y s }
-{
-    let common = x.cabs & y.cabs;
-    if common == 0 {
-        return s;
+    // Whether the new stream clashes from s on with x: they have a cab in common and show in a common round.
+    #[tactic(auto, unfolding(load::specs::Stream::clashes))]
+    fn clashes(&self, x: Stream, s: usize) -> bool
+        requires within { s ≤ self.now.last }
+        requires ends { end_of x ≤ max_day }
+        ensures { result ≡ clashes x (start_at s self.now.stream) }
+    {
+        let x_shows = x.start + x.prefetch;
+        let shows = s + self.stream.prefetch;
+        x.cabs & self.stream.cabs != 0
+            && max(x_shows, shows) < min(x_shows + x.rounds, shows + self.stream.rounds)
     }
-    let x_shows = x.start + x.prefetch;
-    let x_end = x_shows + x.rounds;
-    let y_shows = s + y.prefetch;
-    let y_end = y_shows + y.rounds;
-    if larger(x_shows, y_shows) < smaller(x_end, y_end) {
-        return x_end - y.prefetch;
-    }
-    s
-}
 
-// The same for the first of the standing streams that clashes with y at s; s where none does.
-pub fn after_clashes(xs: [Stream; 256], count: usize, y: Stream, s: usize) -> usize
-    requires { (count ≤ max_bookings) × (EndInDay (take count xs)) × (s + length_of y ≤ max_day) }
-    ensures { result ≡ after_clashes (take count xs) y s }
-{
-    let mut i = 0;
-    while i < count {
-        let x = xs[i];
-        let next = after_clash(x, y, s);
-        if s < next {
-            return next;
-        }
-        i += 1;
+    // The first start at which the new stream shows only after a standing one has ended, the first that it clashes with from s
+    // on; None where it clashes with none.
+    pub fn after_clash(&self, s: usize) -> Option<usize>
+        requires { s ≤ self.now.last }
+        ensures { result ≡ after_clash (seen self.now) s }
+    {
+        let x = self.standing.iter().find(|x| self.clashes(**x, s))?;
+        Some(x.start + x.prefetch + x.rounds - self.stream.prefetch)
     }
-    s
 }

@@ -1,31 +1,33 @@
 // Rounds that the disk can take.
-ghost use Rattle.std.specs.Prelude.{◌≡◌, ◌+◌, ◌*◌, ◌≤◌, ◌<◌, leb};
-ghost use Rattle.limits.specs.Bounds.{max_reserve, max_bookings};
-ghost use Rattle.loss.specs.Loss.{loss_at};
-ghost use Rattle.search.specs.Fit.{DiskRows, disk_fits};
-ghost use Rattle.search.specs.Search.{PassFrom};
+ghost use Rattle.std.specs.Prelude.{◌≡◌, ◌+◌, ◌≤◌, ◌<◌};
+ghost use Rattle.load.specs.Stream.{length_of};
+ghost use Rattle.search.specs.Fit.{disk_free};
+ghost use Rattle.search.specs.Search.{LastFails};
 
-// Whether the disk can read a stream of reserve b more in a round in which some are open.
-pub fn takes(opened: u64, reserved: u64, b: u64, disk: u64) -> bool
-    requires { (opened < max_bookings) × (reserved ≤ max_bookings * max_reserve) × (b ≤ max_reserve) }
-    ensures { result ≡ leb (reserved + b + loss_at (opened + 1)) disk }
-{
-    reserved + b + loss::loss(opened + 1) <= disk
-}
+use crate::query::Query;
 
-// Of the rounds a to e - 1, the first after the last in which the disk cannot read a stream of reserve b more; a if there is none.
-pub fn free_from(opens: &[u64], reserves: &[u64], disk: u64, b: u64, a: usize, e: usize) -> usize
-    requires { (DiskRows opens.now reserves.now e) × (b ≤ max_reserve) × (a ≤ e) }
-    ensures { PassFrom (λ t. disk_fits opens.now reserves.now disk b t) a e result }
-{
-    let mut r = e;
-    while a < r {
-        let t = r - 1;
-        if takes(opens[t], reserves[t], b, disk) {
-            r = t;
-        } else {
-            return t + 1;
-        }
+impl Query<'_> {
+    ghost use Rattle.search.specs.Seen.{seen};
+
+    // Whether the disk can read the new stream too in round t.
+    #[tactic(auto, unfolding(crate::specs::Fit::disk_fits))]
+    fn disk_free(&self, t: usize) -> bool
+        requires { t < self.now.last + length_of self.now.stream }
+        ensures { result ≡ disk_free (seen self.now) t }
+    {
+        self.reserves[t] + self.stream.reserve + loss::loss(self.opens[t] + 1) <= self.disk
     }
-    r
+
+    // The last of the rounds a to e - 1 in which it cannot.
+    pub fn last_over_disk(&self, a: usize, e: usize) -> Option<usize>
+        requires { e ≤ self.now.last + length_of self.now.stream }
+        ensures { LastFails (disk_free (seen self.now)) a e result }
+    {
+        for t in (a..e).rev() {
+            if !self.disk_free(t) {
+                return Some(t);
+            }
+        }
+        None
+    }
 }

@@ -4,72 +4,62 @@
 mod cabs;
 mod disk;
 mod memory;
+mod query;
 mod window;
 
-ghost use Rattle.std.specs.Prelude.{◌≡◌, ◌≤◌, take};
-ghost use Rattle.limits.specs.Bounds.{max_bookings};
+ghost use Rattle.std.specs.Prelude.{◌≡◌};
 ghost use Rattle.retrieval.specs.Stored.{InRange};
-ghost use Rattle.load.specs.Stream.{profile_of};
 ghost use Rattle.model.specs.Fit.{first_of};
-ghost use Rattle.search.specs.Fit.{query_of, fits_at, answer_of, Window};
+ghost use Rattle.search.specs.Fit.{query_in, fits_at, answer_of, Window};
 
+use crate::query::Query;
+use films::film::Sizes;
 use limits::bounds::{MAX_PREFETCH, MAX_ROUNDS};
 use load::stream::Stream;
-
-// A start, or none of the window's.
-#[derive(Clone, Copy)]
-pub enum Found {
-    At(u64),
-    Nowhere,
-}
+use model::{Day, Sheet};
+use retrieval::Schedule;
 
 // rounds that a stream is open, at most
 const MAX_LENGTH: usize = MAX_PREFETCH as usize + MAX_ROUNDS;
 
-// The first start from first to last at which the stream y, whatever its own start, fits beside the first count streams of xs,
-// where opens, reserves and helds are the day sheet of those.
+// The first start from first to last at which the stream y, whatever its own start, fits beside the streams of xs, whose day
+// sheet it is.
 pub fn first_start(
     file: &[u8],
-    xs: [Stream; 256],
-    count: usize,
+    xs: &[Stream],
     y: Stream,
-    disk: u64,
-    memory: u64,
-    opens: &[u64],
-    reserves: &[u64],
-    helds: &[u64],
+    day: Day,
+    sheet: &Sheet<'_>,
     first: u64,
     last: u64,
-) -> Found
-    requires { (count ≤ max_bookings)
-        × (InRange file.now y.at y.rounds y.prefetch y.reserve)
-        × (Window (query_of y (profile_of file.now y) (take count xs) opens.now reserves.now helds.now disk memory) last) }
-    ensures { result ≡ answer_of (first_of (fits_at (query_of y (profile_of file.now y) (take count xs) opens.now reserves.now helds.now disk memory)) first last) }
+) -> Option<u64>
+    requires in_range { InRange file.now y.at y.rounds y.prefetch y.reserve }
+    requires window { Window (query_in file.now xs.now y day sheet.now) last }
+    ensures { result ≡ answer_of (first_of (fits_at (query_in file.now xs.now y day sheet.now)) first last) }
 {
-    let n = y.prefetch + y.rounds;
-    let mut profile = [0u64; MAX_LENGTH];
-    retrieval::add_held(
-        &mut profile,
-        file,
-        y.at,
-        y.rounds,
-        y.prefetch,
-        y.reserve,
-        0,
-        n,
-        0,
-    );
-    window::first_fit(
-        y,
-        &profile,
-        xs,
-        count,
-        opens,
-        reserves,
-        helds,
-        disk,
-        memory,
-        first as usize,
-        last as usize,
-    )
+    // not by y.schedule, which asks that the film has a round
+    let schedule = Schedule {
+        sizes: Sizes {
+            file,
+            at: y.at,
+            rounds: y.rounds,
+        },
+        prefetch: y.prefetch,
+        reserve: y.reserve,
+    };
+    let length = schedule.rounds();
+    let mut profile = [0; MAX_LENGTH];
+    schedule.add_held(&mut profile, 0, length, 0);
+    let query = Query {
+        stream: y,
+        profile: &profile[..length],
+        standing: xs,
+        opens: &*sheet.opens,
+        reserves: &*sheet.reserves,
+        helds: &*sheet.helds,
+        disk: day.disk,
+        memory: day.memory,
+        last: last as usize,
+    };
+    query.first_fit(first as usize)
 }

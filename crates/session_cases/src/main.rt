@@ -3,200 +3,120 @@
 
 mod session;
 
-ghost use Rattle.std.specs.Prelude.{◌<◌, ◌≤◌, length};
-
 use console::OUTPUT_BYTES;
 use limits::bounds::HALL_ROUNDS;
-use script::buffer;
-use script::buffer::{BUFFER, file_length};
-use script::input::read_full;
-use script::operands::{MAX_SCRIPT, after, u8_at, u16_at, u32_at};
-use session::Running;
+use model::Sheet;
+use program::Session;
+use script::buffer::{BUFFER, FilmBuffer};
+use script::operands::Operation;
+use script::{buffer, input};
 use std::io;
 
-// opcodes
-const BEGIN: u64 = 16;
+// opcodes: numbers, as they stand in a script
+const BEGIN: u8 = 16;
 
-const FEED: u64 = 17;
+const FEED: u8 = 17;
 
-const REPEAT: u64 = 18;
+const REPEAT: u8 = 18;
 
-const END: u64 = 19;
+const END: u8 = 19;
 
-// The session that the script has begun, and the film file's length.
-#[derive(Clone, Copy)]
-struct Case {
-    running: Running,
-    length: usize,
-}
-
-// Bytes of the operands of the operation at a position.
-fn operands(script: &[u8], at: usize) -> usize {
-    match u8_at(script, at, 0) {
+// Bytes of the operands of an operation.
+fn operands(operation: Operation<'_>) -> usize {
+    match operation.opcode() {
         BEGIN => 0,
-        FEED => 2 + u16_at(script, at, 1) as usize,
+        FEED => 2 + usize::from(operation.u16(1)),
         REPEAT => 5,
         END => 0,
-        _ => buffer::operands(script, at),
+        _ => buffer::operands(operation),
     }
 }
 
-// Carries out the FEED between two positions.
-fn feed(
+// Carries out an operation of the session that stands.
+fn carry_on(
     rt: &impl Print,
-    script: &[u8],
-    at: usize,
-    next: usize,
+    operation: Operation<'_>,
     file: &[u8],
-    running: Running,
-    opens: &mut [u64],
-    reserves: &mut [u64],
-    helds: &mut [u64],
+    session: &mut Session,
+    sheet: &mut Sheet<'_>,
     out: &mut [u8],
-) -> io::Result<Running>
-    requires { (at < next) × (next ≤ length script.now) }
-{
-    if next - at <= 3 {
-        return Ok(running);
-    }
-    let from = at + 3;
-    let bytes = &script[from..next];
-    session::feed(rt, file, running, bytes, opens, reserves, helds, out)
-}
-
-// Carries out a session's operation between two positions.
-fn serve(
-    rt: &impl Print,
-    script: &[u8],
-    at: usize,
-    next: usize,
-    file: &[u8],
-    running: Running,
-    opens: &mut [u64],
-    reserves: &mut [u64],
-    helds: &mut [u64],
-    out: &mut [u8],
-) -> io::Result<Running>
-    requires { (at < next) × (next ≤ length script.now) }
-{
-    match u8_at(script, at, 0) {
-        BEGIN => session::begin(rt, file, out),
-        FEED => feed(
-            rt, script, at, next, file, running, opens, reserves, helds, out,
-        ),
+) -> io::Result<()> {
+    match operation.opcode() {
+        FEED => {
+            let bytes = operation.bytes(3, usize::from(operation.u16(1)));
+            session::feed(rt, file, session, sheet, bytes, out)
+        }
         REPEAT => session::repeat(
             rt,
             file,
-            running,
-            u8_at(script, at, 5) as u8,
-            u32_at(script, at, 1) as usize,
-            opens,
-            reserves,
-            helds,
+            session,
+            sheet,
+            operation.u8(5),
+            operation.u32(1) as usize,
             out,
         ),
-        _ => {
-            session::end(rt, file, running, opens, reserves, helds, out)?;
-            rt.print("END\n")?;
-            Ok(running)
-        }
+        _ => session::end(rt, file, session, sheet, out),
     }
 }
 
-// Carries out the operation between two positions.
+// Carries out an operation on the film file, or on the session that the script has begun, if it has.
 fn carry_out(
     rt: &impl Print,
-    script: &[u8],
-    at: usize,
-    next: usize,
-    bytes: &mut [u8],
-    case: Case,
-    opens: &mut [u64],
-    reserves: &mut [u64],
-    helds: &mut [u64],
-    out: &mut [u8],
-) -> io::Result<Case>
-    requires { (at < next) × (next ≤ length script.now) }
-{
-    let before = case.running;
-    if u8_at(script, at, 0) < BEGIN {
-        return Ok(Case {
-            running: before,
-            length: buffer::carry_out(script, at, bytes, case.length),
-        });
-    }
-    let n = file_length(bytes, case.length);
-    let running = serve(
-        rt,
-        script,
-        at,
-        next,
-        &bytes[..n],
-        before,
-        opens,
-        reserves,
-        helds,
-        out,
-    )?;
-    Ok(Case {
-        running,
-        length: case.length,
-    })
-}
-
-// Carries out the operations in order.
-fn carry_out_all(
-    rt: &impl Print,
-    script: &[u8],
-    bytes: &mut [u8],
-    opens: &mut [u64],
-    reserves: &mut [u64],
-    helds: &mut [u64],
+    operation: Operation<'_>,
+    films: &mut FilmBuffer<'_>,
+    session: &mut Option<Session>,
+    sheet: &mut Sheet<'_>,
     out: &mut [u8],
 ) -> io::Result<()> {
-    let mut case = Case {
-        running: session::begun(false),
-        length: 0,
-    };
-    let mut at = 0;
-    while at < script.len() {
-        let next = after(script, at, operands(script, at));
-        case = carry_out(
-            rt, script, at, next, bytes, case, opens, reserves, helds, out,
-        )?;
-        at = next;
+    let opcode = operation.opcode();
+    if opcode < BEGIN {
+        films.carry_out(operation);
+        return Ok(());
+    }
+    if opcode == BEGIN {
+        *session = session::begin(rt, films.file(), out)?;
+        return Ok(());
+    }
+    if let Some(begun) = session {
+        carry_on(rt, operation, films.file(), begun, sheet, out)?;
+    }
+    if opcode != FEED && opcode != REPEAT {
+        rt.print("END\n")?;
     }
     Ok(())
 }
 
-// The same over whole arrays, whose lengths their types give.
-fn run(
+// Carries out the operations in order. The buffer is a parameter, whose type gives its length.
+fn carry_out_all(
     rt: &impl Print,
     script: &[u8],
     bytes: &mut [u8; BUFFER],
-    opens: &mut [u64; HALL_ROUNDS],
-    reserves: &mut [u64; HALL_ROUNDS],
-    helds: &mut [u64; HALL_ROUNDS],
-    out: &mut [u8; OUTPUT_BYTES],
+    sheet: &mut Sheet<'_>,
+    out: &mut [u8],
 ) -> io::Result<()> {
-    carry_out_all(rt, script, bytes, opens, reserves, helds, out)
+    let mut films = FilmBuffer { bytes, length: 0 };
+    let mut session = None;
+    let mut rest = script;
+    // Each program takes its operations for itself, since what they change differs; how much one takes is in its operands.
+    'operations: while !rest.is_empty() {
+        let operation = Operation { script: rest };
+        carry_out(rt, operation, &mut films, &mut session, sheet, out)?;
+        rest = operation.after(operands(operation));
+    }
+    Ok(())
 }
 
 fn main(rt: HostRuntime) -> io::Result<()> {
-    let mut input = [0u8; MAX_SCRIPT];
-    let n = read_full(&mut rt.stdin(), &mut input)?;
+    let script = input::read(rt.stdin())?;
     let mut bytes = [0u8; BUFFER];
     let mut opens = [0u64; HALL_ROUNDS];
     let mut reserves = [0u64; HALL_ROUNDS];
     let mut helds = [0u64; HALL_ROUNDS];
+    let mut sheet = Sheet {
+        opens: &mut opens,
+        reserves: &mut reserves,
+        helds: &mut helds,
+    };
     let mut out = [0u8; OUTPUT_BYTES];
-    run(
-        &rt,
-        &input[..n],
-        &mut bytes,
-        &mut opens,
-        &mut reserves,
-        &mut helds,
-        &mut out,
-    )
+    carry_out_all(&rt, &script, &mut bytes, &mut sheet, &mut out)
 }

@@ -1,115 +1,69 @@
 // A session of the program: its film file, bytes of its input, and their end. What the program prints is printed.
-use console::Session;
-use lines::Splitter;
-use program::{serve_end, serve_line};
-use script::buffer::file_length;
+use model::Sheet;
+use program::{Session, serve_end, serve_line};
+use script::buffer::prefix;
 use std::io;
 
 // bytes that are fed at once of those that are all the same
 const PART: usize = 4096;
 
-// Where a session stands: the line that is being read, the day and its records, and whether the film file was accepted. With
-// one that was refused the input is not read.
-#[derive(Clone, Copy)]
-pub struct Running {
-    pub splitter: Splitter,
-    pub session: Session,
-    pub accepted: bool,
-}
-
-// A session that has begun.
-pub fn begun(accepted: bool) -> Running {
-    Running {
-        splitter: lines::start(),
-        session: console::start(),
-        accepted,
+// The program begins with this film file. With one that is refused there is no session, and the input is not read.
+pub fn begin(rt: &impl Print, file: &[u8], out: &mut [u8]) -> io::Result<Option<Session>> {
+    match program::begin(file, out) {
+        Ok(()) => Ok(Some(Session::start())),
+        Err(length) => {
+            rt.write_all(prefix(out, length))?;
+            Ok(None)
+        }
     }
-}
-
-// Prints the bytes at the front of a buffer.
-fn print(rt: &impl Print, out: &[u8], length: usize) -> io::Result<()> {
-    let n = file_length(out, length);
-    rt.write_all(&out[..n])
-}
-
-// The program begins with this film file.
-pub fn begin(rt: &impl Print, file: &[u8], out: &mut [u8]) -> io::Result<Running> {
-    let first = program::begin(file, out);
-    print(rt, out, first.length)?;
-    Ok(begun(first.accepted))
 }
 
 // The input's next bytes: each line that they end is answered.
 pub fn feed(
     rt: &impl Print,
     file: &[u8],
-    running: Running,
+    session: &mut Session,
+    sheet: &mut Sheet<'_>,
     bytes: &[u8],
-    opens: &mut [u64],
-    reserves: &mut [u64],
-    helds: &mut [u64],
     out: &mut [u8],
-) -> io::Result<Running> {
-    if !running.accepted {
-        return Ok(running);
+) -> io::Result<()> {
+    let mut rest = bytes;
+    // Line by line: how much of the bytes a line takes is known once it is served.
+    while !rest.is_empty() {
+        let (length, left) = serve_line(file, session, sheet, rest, out);
+        rt.write_all(prefix(out, length))?;
+        rest = left;
     }
-    let mut splitter = running.splitter;
-    let mut session = running.session;
-    let mut at = 0;
-    while at < bytes.len() {
-        let served = serve_line(
-            file, session, splitter, bytes, at, opens, reserves, helds, out,
-        );
-        print(rt, out, served.length)?;
-        splitter = served.splitter;
-        session = served.session;
-        at = served.next;
-    }
-    Ok(Running {
-        splitter,
-        session,
-        accepted: true,
-    })
+    Ok(())
 }
 
 // The input's next bytes, all the same.
 pub fn repeat(
     rt: &impl Print,
     file: &[u8],
-    running: Running,
+    session: &mut Session,
+    sheet: &mut Sheet<'_>,
     value: u8,
     count: usize,
-    opens: &mut [u64],
-    reserves: &mut [u64],
-    helds: &mut [u64],
     out: &mut [u8],
-) -> io::Result<Running> {
+) -> io::Result<()> {
     let part = [value; PART];
-    let mut next = running;
-    let mut left = count;
-    while PART < left {
-        next = feed(rt, file, next, &part, opens, reserves, helds, out)?;
-        left -= PART;
+    for _ in 0..count / PART {
+        feed(rt, file, session, sheet, &part, out)?;
     }
-    let n = file_length(&part, left);
-    feed(rt, file, next, &part[..n], opens, reserves, helds, out)
+    feed(rt, file, session, sheet, &part[..count % PART], out)
 }
 
-// The input ends.
+// The input ends. The session stays as it was, for bytes that a script feeds after the end.
 pub fn end(
     rt: &impl Print,
     file: &[u8],
-    running: Running,
-    opens: &mut [u64],
-    reserves: &mut [u64],
-    helds: &mut [u64],
+    session: &mut Session,
+    sheet: &mut Sheet<'_>,
     out: &mut [u8],
 ) -> io::Result<()> {
-    if !running.accepted {
-        return Ok(());
-    }
-    let splitter = running.splitter;
-    let session = running.session;
-    let stepped = serve_end(file, session, splitter, opens, reserves, helds, out);
-    print(rt, out, stepped.length)
+    let desk = session.desk;
+    let length = serve_end(file, session, sheet, out);
+    session.desk = desk;
+    rt.write_all(prefix(out, length))
 }

@@ -8,7 +8,8 @@ use Rattle.films.specs.Decode.{films_of}
 use Rattle.loss.specs.Loss.{table, loss_at}
 use Rattle.retrieval.specs.Schedule.{sends, helds, peak}
 use Rattle.retrieval.specs.LeastReserve.{least_reserve}
-use Rattle.planning.specs.Answers.{plan_questions, schedule_questions, scheduled, scheduled_number, schedule_out, cap_questions, reserve_questions, reserved, reserve_number, reserve_values}
+use Rattle.limits.specs.Numbered.{answer_number}
+use Rattle.planning.specs.Answers.{plan_questions, schedule_questions, scheduled, schedule_out, cap_questions, reserve_questions, reserved, answer_values}
 use Rattle.model.specs.Day.{Setting, open_at, shows_at, exists}
 use Rattle.model.specs.Questions.{record_questions, window_open, book_own, drop_own, play_own}
 use Rattle.model.specs.Soundness.{passes, round_kept, limits_kept, sound_list, fit_test}
@@ -43,7 +44,7 @@ lent8 = replicate 8 99
 
 -- the number that the call answers, 0 if it is no refusal
 abbrev pub answered : ℕ → ℕ → ℕ
-answered p b = scheduled_number (scheduled file1 1 p b (length lent8))
+answered p b = answer_number (scheduled file1 1 p b (length lent8))
 
 -- the lent list afterwards, and its totals
 abbrev pub written : ℕ → ℕ → List ℕ
@@ -91,10 +92,10 @@ pub record StarredLines : Type 0 where
   pub p1-b7 : answered 1 7 ≡ 0
   pub p1-b7-peak : peak_of 1 7 ≡ 10
   -- "Least reserve, p 1: cap 12 gives 6, cap 11 gives 7, cap 8 gives 8, cap 7 is refused 13."
-  pub cap12 : reserve_values (reserved file1 1 1 12) ≡ 6 ∷ []
-  pub cap11 : reserve_values (reserved file1 1 1 11) ≡ 7 ∷ []
-  pub cap8 : reserve_values (reserved file1 1 1 8) ≡ 8 ∷ []
-  pub cap7 : reserve_number (reserved file1 1 1 7) ≡ 13
+  pub cap12 : answer_values (reserved file1 1 1 12) ≡ 6 ∷ []
+  pub cap11 : answer_values (reserved file1 1 1 11) ≡ 7 ∷ []
+  pub cap8 : answer_values (reserved file1 1 1 8) ≡ 8 ∷ []
+  pub cap7 : answer_number (reserved file1 1 1 7) ≡ 13
   -- "Booking 2 above with M 15: start 6. With M 18 and D 141,432: start 7."
   pub less-memory : booked 141433 15 2 ≡ Booked 0 ∷ Booked 6 ∷ []
   pub less-disk : booked 141432 18 2 ≡ Booked 0 ∷ Booked 7 ∷ []

@@ -1,8 +1,9 @@
 -- Numerals and lines: a decimal numeral has at most 20 digits, no leading zero, and is read back as its number; an output line
 -- has at most 84 bytes, and a report of up to 64 lines with its answer fits 8,192. Assumes nothing.
 use Rattle.std.specs.Prelude.{ℕ, zero, suc, ◌+◌, ◌*◌, ◌/◌, ◌%◌, ◌^◌, ◌<◌, ◌≤◌, ◌≡◌, refl, Bool, true, false, cond, List, [], ◌∷◌, ◌++◌, ltb, length, get_or}
-use Rattle.std.proofs.Common.{sym, ap, ◌∙◌, pow-suc, arith, length-append, lt-ltb, le-ltb, le-leb}
-use Rattle.std.proofs.Math.Decide.{dec_lt}
+use Rattle.std.proofs.Common.{sym, ◌∙◌, arith, length-append, lt-ltb, le-ltb, le-leb, ap, pow-suc}
+use Rattle.std.specs.Fmt.{decimal as Fmt·decimal}
+use Rattle.std.proofs.lemmas.Fmt.{AppendsLastDigit, decimal_from_appends, decimal_by_steps, length-decimal-le}
 use Rattle.std.proofs.Math.ListN.{get_or-append}
 use Rattle.limits.specs.Bounds.{max_digits, hall_places}
 use Rattle.laws.specs.Tests.{join, all_append}
@@ -15,6 +16,7 @@ use Rattle.commands.specs.Values.{value-append}
 use Rattle.text.specs.Text.{spell, decimal, field, end, no_word, booked_word, dropped_word, round_word, answer_fields, answer_text, line_text, report_text}
 use Rattle.text.specs.Write.{max_text}
 use Rattle.text.specs.Digits.{Spelt, output_bytes}
+use Rattle.std.proofs.Math.Decide.{dec_lt}
 
 -- ---- Digits
 
@@ -26,7 +28,7 @@ spell-more : (k n : ℕ) → 10 ≤ n → spell (suc k) n ≡ spell k (n / 10) +
 unfolding spell
 spell-more k n h = rw (le-ltb n 10 h)
 
-pub spell-length : (k n : ℕ) → length (spell k n) ≤ k
+spell-length : (k n : ℕ) → length (spell k n) ≤ k
 unfolding spell
 spell-length zero n = omega arith
 spell-length (suc k) n = go (ltb n 10) (spell-length k (n / 10))
@@ -35,34 +37,15 @@ spell-length (suc k) n = go (ltb n 10) (spell-length k (n / 10))
     go true h = omega arith
     go false h = omega (arith, length-append (spell k (n / 10)) ((digit_zero + n % 10) ∷ []))
 
--- room for one digit more than there are changes nothing
-spell_enough : (k n : ℕ) → n < 10 ^ suc k → spell (suc (suc k)) n ≡ spell (suc k) n
-spell_enough zero n h = spell-digit 1 n h ∙ sym (spell-digit 0 n h)
-spell_enough (suc k) n h = go (dec_lt n 10) (λ e. spell_enough k (n / 10) e)
-  where
-    go : Dec (n < 10) → (n / 10 < 10 ^ suc k → spell (suc (suc k)) (n / 10) ≡ spell (suc k) (n / 10))
-        → spell (suc (suc (suc k))) n ≡ spell (suc (suc k)) n
-    go (yes l) ih = spell-digit (suc (suc k)) n l ∙ sym (spell-digit (suc k) n l)
-    go (no l) ih =
-        let many : 10 ≤ n = omega arith in
-        let tenth : n / 10 < 10 ^ suc k = omega (arith, pow-suc 10 (suc k)) in
-        spell-more (suc (suc k)) n many ∙ rw (ih tenth) (sym (spell-more (suc k) n many))
-
-tenth : (n : ℕ) → n < 2 ^ 64 → decimal (n / 10) ≡ spell 19 (n / 10)
-tenth n f = spell_enough 18 (n / 10) (omega arith)
-
 pub decimal-length : (n : ℕ) → length (decimal n) ≤ max_digits
 decimal-length n = spell-length max_digits n
 
-pub decimal_digit : (n : ℕ) → n < 10 → decimal n ≡ (digit_zero + n) ∷ []
-decimal_digit n h = spell-digit 19 n h
+spells : AppendsLastDigit spell
+spells = record { one = spell-digit; more = spell-more }
 
-pub decimal-more : (n : ℕ) → 10 ≤ n → n < 2 ^ 64 → decimal n ≡ decimal (n / 10) ++ (digit_zero + n % 10) ∷ []
-decimal-more n h f = rw (tenth n f) (spell-more 19 n h)
-
--- the numeral of a tenth leaves room for a digit
-pub tenth-length : (n : ℕ) → n < 2 ^ 64 → length (decimal (n / 10)) < max_digits
-tenth-length n f = omega (arith, ap length (tenth n f), spell-length 19 (n / 10))
+-- the numeral that is printed
+pub decimal_printed : (n : ℕ) → n < 2 ^ 64 → Fmt·decimal n ≡ decimal n
+decimal_printed n h = sym (decimal_from_appends spell spells max_digits n h (length-decimal-le 20 n (omega arith) (omega arith) h))
 
 digit-spelt : (d : ℕ) → d < 10 → Spelt d ((digit_zero + d) ∷ [])
 digit-spelt d h =
@@ -83,19 +66,8 @@ more-spelt n w h s =
       no_zero = λ p. rw (get_or-append w (d ∷ []) 0 0 s.some-digit) (s.no_zero (omega arith));
     }
 
-spelt : (k n : ℕ) → n < 10 ^ suc k → Spelt n (spell (suc k) n)
-spelt zero n h = rw (spell-digit 0 n h) (digit-spelt n h)
-spelt (suc k) n h = go (dec_lt n 10) (λ e. spelt k (n / 10) e)
-  where
-    go : Dec (n < 10) → (n / 10 < 10 ^ suc k → Spelt (n / 10) (spell (suc k) (n / 10))) → Spelt n (spell (suc (suc k)) n)
-    go (yes l) ih = rw (spell-digit (suc k) n l) (digit-spelt n l)
-    go (no l) ih =
-        let many : 10 ≤ n = omega arith in
-        let tenth : n / 10 < 10 ^ suc k = omega (arith, pow-suc 10 (suc k)) in
-        rw (spell-more (suc k) n many) (more-spelt n (spell (suc k) (n / 10)) many (ih tenth))
-
 decimal-spelt : (n : ℕ) → n < 2 ^ 64 → Spelt n (decimal n)
-decimal-spelt n h = spelt 19 n (omega arith)
+decimal-spelt n h = rw (sym (decimal_printed n h)) (decimal_by_steps Spelt digit-spelt more-spelt n h)
 
 pub decimal-value : (n : ℕ) → n < 2 ^ 64 → value (decimal n) ≡ n
 decimal-value n h = (decimal-spelt n h).number
@@ -169,3 +141,29 @@ pub report-fits : (name round : ℕ) (a : Answer) (ls : List Line) → length ls
     → length (answer_text name round a ++ report_text ls) + max_text ≤ output_bytes
 report-fits name round a ls h =
     omega (arith, length-append (answer_text name round a) (report_text ls), answer-length name round a, report-length ls)
+
+-- room for one digit more than there are changes nothing
+spell_enough : (k n : ℕ) → n < 10 ^ suc k → spell (suc (suc k)) n ≡ spell (suc k) n
+spell_enough zero n h = spell-digit 1 n h ∙ sym (spell-digit 0 n h)
+spell_enough (suc k) n h = go (dec_lt n 10) (λ e. spell_enough k (n / 10) e)
+  where
+    go : Dec (n < 10) → (n / 10 < 10 ^ suc k → spell (suc (suc k)) (n / 10) ≡ spell (suc k) (n / 10))
+        → spell (suc (suc (suc k))) n ≡ spell (suc (suc k)) n
+    go (yes l) ih = spell-digit (suc (suc k)) n l ∙ sym (spell-digit (suc k) n l)
+    go (no l) ih =
+        let many : 10 ≤ n = omega arith in
+        let tenth : n / 10 < 10 ^ suc k = omega (arith, pow-suc 10 (suc k)) in
+        spell-more (suc (suc k)) n many ∙ rw (ih tenth) (sym (spell-more (suc k) n many))
+
+tenth : (n : ℕ) → n < 2 ^ 64 → decimal (n / 10) ≡ spell 19 (n / 10)
+tenth n f = spell_enough 18 (n / 10) (omega arith)
+
+pub decimal_digit : (n : ℕ) → n < 10 → decimal n ≡ (digit_zero + n) ∷ []
+decimal_digit n h = spell-digit 19 n h
+
+pub decimal-more : (n : ℕ) → 10 ≤ n → n < 2 ^ 64 → decimal n ≡ decimal (n / 10) ++ (digit_zero + n % 10) ∷ []
+decimal-more n h f = rw (tenth n f) (spell-more 19 n h)
+
+-- the numeral of a tenth leaves room for a digit
+pub tenth-length : (n : ℕ) → n < 2 ^ 64 → length (decimal (n / 10)) < max_digits
+tenth-length n f = omega (arith, ap length (tenth n f), spell-length 19 (n / 10))

@@ -1,4 +1,3 @@
--- What the functions' proofs share.
-pub mod Writing
 pub mod Digits
+mod Lines
 pub mod Session

@@ -1,5 +1,6 @@
 -- The output text (document 01, 'The program'): "Each output line ends with byte 10, its fields parted by one space."
 use Rattle.std.specs.Prelude.{ℕ, zero, suc, ◌+◌, ◌/◌, ◌%◌, cond, List, [], ◌∷◌, ◌++◌, ltb}
+use Rattle.std.specs.List.{fold}
 use Rattle.limits.specs.Bounds.{max_digits}
 use Rattle.model.specs.declared.Line.{Line}
 use Rattle.model.specs.declared.Answer.{Answer}
@@ -19,6 +20,10 @@ decimal n = spell max_digits n
 -- a field that is not the first
 abbrev pub field : ℕ → List ℕ
 field n = space ∷ decimal n
+
+-- a line's first field and numbers, each after a space
+abbrev pub fields : List ℕ → List ℕ → List ℕ
+fields first numbers = fold (λ text n. text ++ field n) first numbers
 
 abbrev pub end : List ℕ
 end = line_end ∷ []

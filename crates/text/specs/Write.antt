@@ -1,17 +1,10 @@
 -- Text written into a lent buffer from a place on.
-use Rattle.std.specs.Prelude.{ℕ, ◌+◌, ◌*◌, ◌≡◌, Bool, cond, List, ◌++◌, leb, length, take, drop}
+use Rattle.std.specs.Prelude.{ℕ, ◌+◌, ◌*◌, Bool, cond, List, ◌++◌, leb, length, take, drop, Option, Some, None}
 use Rattle.limits.specs.Bounds.{max_digits}
-use Rattle.text.specs.declared.Written.{Written}
-use Rattle.text.specs.declared.Written.TheVariants.{Next, NoRoom}
 
 -- the buffer with the text from `at` on: what stands before it and after it is as it was
 unfoldable pub placed : List ℕ → ℕ → List ℕ → List ℕ
 placed old at text = take at old ++ (text ++ drop (at + length text) old)
-
--- the text was written from `at` on, and `next` is the place after it
-pub record Wrote (old : List ℕ) (at : ℕ) (text new : List ℕ) (next : ℕ) : Type 0 where
-  pub buffer : new ≡ placed old at text
-  pub place : next ≡ at + length text
 
 -- bytes of a space and a numeral, at most
 abbrev pub max_field : ℕ
@@ -29,5 +22,5 @@ has_room old at = leb (at + max_text) (length old)
 unfoldable pub buffer_after : List ℕ → ℕ → List ℕ → List ℕ
 buffer_after old at text = cond (has_room old at) (placed old at text) old
 
-unfoldable pub place_after : List ℕ → ℕ → List ℕ → Written
-place_after old at text = cond (has_room old at) (Next (at + length text)) NoRoom
+unfoldable pub place_after : List ℕ → ℕ → List ℕ → Option ℕ
+place_after old at text = cond (has_room old at) (Some (at + length text)) None

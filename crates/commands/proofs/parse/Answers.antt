@@ -1,31 +1,47 @@
--- `commands::parse` meets its contract, by cases on the line's length and on what its arguments are. Assumes nothing.
-use mathlib.Core.Path.{sym, ap, ◌∙◌}
-use native.Mathlib.Omega.{arith}
-use borrow.Author.Tests.{lt-leb}
-use lib.ListN.{length, take}
-use lib.Seq.{length-take-le}
-use Rattle.commands.specs.Grammar.{command_of}
-use Rattle.commands.proofs.Parsing.{command_by, short-line, parsed}
+-- `commands::parse` meets its contract. Assumes nothing.
+use Rattle.std.proofs.Common.{arith, refl, sym, ap, ◌∙◌}
+use Rattle.std.proofs.lemmas.Bool.Decides.{nat_tests}
+use Rattle.commands.specs.Grammar.{first_word, later_words, by_verb}
+use Rattle.commands.proofs.Commands.{begins, too_long, done, next, one_more, no_numeral, too_many}
 use Rattle.commands.proofs.parse.Goals as goal
 
 pub returns-then-line-gt-MAX_LINE : goal.returns-then-line-gt-MAX_LINE
-unfolding command_of
-returns-then-line-gt-MAX_LINE c = simp (lt-leb (length c.args.line.now) _ c.if-line-gt-MAX_LINE.true)
+returns-then-line-gt-MAX_LINE c = too_long c.args.line.now c.if-line-gt-MAX_LINE.true
 
-pub returns-then-line-lt-VERB : goal.returns-then-line-lt-VERB
-returns-then-line-lt-VERB c = sym (short-line c.args.line.now c.if-line-lt-VERB.true)
+pub loop-rest-init : goal.loop-rest-init
+loop-rest-init c =
+    let first = begins c.args.line.now c.if-line-gt-MAX_LINE.false in
+    cc
 
-pub slice_bounds-by_verb-end : goal.slice_bounds-by_verb-end
-slice_bounds-by_verb-end c =
-    let line = c.args.line.now in
-    sym (length-take-le 4 line (omega arith))
+pub returns-then-is_full : goal.returns-then-is_full
+returns-then-is_full c =
+    let loop = c.loop-rest in
+    let verb = c.split_word.result.0.now in
+    let words = c.in-Some.words in
+    let n = next c.args.line.now verb loop.numerals.items loop.rest words (first_word words.now) loop.invariant c.in-Some.is refl in
+    too_many verb loop.numerals.items (first_word words.now) (later_words words.now) (grind (arith, nat_tests)) ∙ sym n
 
-pub returns-in-Bad : goal.returns-in-Bad
-returns-in-Bad c =
-    let line = c.args.line.now in
-    ap (command_by (take 4 line)) (sym c.in-Bad.is ∙ c.arguments.ensures) ∙ parsed line c.if-line-gt-MAX_LINE.false
+pub returns-in_err-numeral : goal.returns-in_err-numeral
+returns-in_err-numeral c =
+    let loop = c.loop-rest in
+    let verb = c.split_word.result.0.now in
+    let words = c.in-Some.words in
+    let word = c.split_word-in-Some.result.0.now in
+    let n = next c.args.line.now verb loop.numerals.items loop.rest words word loop.invariant c.in-Some.is c.split_word-in-Some.ensures.word in
+    c.from_residual.ensures ∙ no_numeral verb loop.numerals.items word (later_words words.now) (c.in_err-numeral.ensures) ∙ sym n
 
-pub returns-in-At : goal.returns-in-At
-returns-in-At c =
-    let line = c.args.line.now in
-    c.by_verb.ensures ∙ ap (command_by (take 4 line)) (sym c.in-At.is ∙ c.arguments.ensures) ∙ parsed line c.if-line-gt-MAX_LINE.false
+pub loop-rest-preserved : goal.loop-rest-preserved
+loop-rest-preserved c =
+    let loop = c.loop-rest in
+    let verb = c.split_word.result.0.now in
+    let words = c.in-Some.words in
+    let word = c.split_word-in-Some.result.0.now in
+    let n = next c.args.line.now verb loop.numerals.items loop.rest words word loop.invariant c.in-Some.is c.split_word-in-Some.ensures.word in
+    let m = one_more verb loop.numerals.items word (later_words words.now) c.in_ok-numeral.field-0 (c.in_ok-numeral.ensures) in
+    cc
+
+pub returns : goal.returns
+returns c =
+    let loop = c.loop-rest in
+    let verb = c.split_word.result.0.now in
+    c.by_verb.ensures ∙ ap (by_verb verb) c.as_slice.ensures.value ∙ done c.args.line.now verb loop.numerals.items loop.rest loop.invariant c.in_default.is

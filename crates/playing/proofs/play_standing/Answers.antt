@@ -1,49 +1,28 @@
--- `playing::play_standing` meets its contract: the bookings are sound, so that the lines can be made, and 23 and 11 decide. Assumes nothing.
-use mathlib.Core.Path.{sym, subst, ◌∙◌}
-use native.Mathlib.Omega.{arith}
-use Rattle.playing.specs.Contract.{Plays}
-use Rattle.playing.specs.Laws.{own-after, standing-ready, plays-refused, plays-accepted}
-use Rattle.playing.specs.declared.Played.{Played}
+-- `playing::play_standing` meets its contract: the bookings are sound, so that the lines can be made, and 23 and 11 decide.
+-- Assumes nothing.
+use Rattle.std.proofs.Common.{arith}
+use Rattle.playing.specs.Laws.{standing-ready, own-refused, plays-accepted}
 use Rattle.playing.proofs.play_standing.Goals as goal
 
-pub lines_of-report-requires : goal.lines_of-report-requires
-lines_of-report-requires c =
-    let start = c in
-    let a = start.args in
-    standing-ready a.file.now a.day a.rows a.places a.room a.c start.requires.0 (sym start.requires.1)
+pub lines_of-lines-requires : goal.lines_of-lines-requires
+lines_of-lines-requires c = standing-ready c.args.film_file.now.bytes.now c.args.desk.now c.args.room c.requires
 
-pub returns-then-own-ne0 : goal.returns-then-own-ne0
-returns-then-own-ne0 c =
-    let test = c in
-    let own = test.own_number-own in
-    let made = test.lines_of-report in
-    let start = test in
-    let a = start.args in
-    let number = own-after a.file.now a.day a.rows a.places a.room made.result.«open» (sym start.requires.1) made.ensures.0 in
-    subst (λ (r : Played). Plays a.file.now a.day a.rows a.places a.room r) (sym c.refused.ensures)
-    (plays-refused a.file.now a.day a.rows a.places a.room own.result (number ∙ sym own.ensures) test.if-own-ne0.true)
+pub returns-in-Err : goal.returns-in-Err
+returns-in-Err c =
+    let a = c.args in
+    rw (c.refused.ensures.answer, c.refused.ensures.lines)
+    (own-refused a.film_file.now.bytes.now a.desk.now a.room c.requires c.lines_of-lines.result.items c.lines_of-lines.ensures _ (rw c.len-films.ensures.value at c.in-Err.ensures))
 
 pub cabs_served-cabs-requires : goal.cabs_served-cabs-requires
-cabs_served-cabs-requires c =
-    let start = c in
-    let a = start.args in
-    standing-ready a.file.now a.day a.rows a.places a.room a.c start.requires.0 (sym start.requires.1)
+cabs_served-cabs-requires c = (standing-ready c.args.film_file.now.bytes.now c.args.desk.now c.args.room c.requires).few
 
-pub overflow_add-result : goal.overflow_add-result
-overflow_add-result c =
-    let start = c in
-    let a = start.args in
-    let ready = standing-ready a.file.now a.day a.rows a.places a.room a.c start.requires.0 (sym start.requires.1) in
+pub overflow_add-desk : goal.overflow_add-desk
+overflow_add-desk c =
+    let ready = standing-ready c.args.film_file.now.bytes.now c.args.desk.now c.args.room c.requires in
     record { fits = omega (arith, ready.today, ready.short) }
 
 pub returns : goal.returns
 returns c =
-    let cabs = c.cabs_served-cabs in
-    let test = c in
-    let own = test.own_number-own in
-    let made = test.lines_of-report in
-    let start = test in
-    let a = start.args in
-    let number = own-after a.file.now a.day a.rows a.places a.room made.result.«open» (sym start.requires.1) made.ensures.0 in
-    plays-accepted a.file.now a.day a.rows a.places a.room made.result.«open» cabs.result made.result.lines
-    (number ∙ sym own.ensures ∙ test.if-own-ne0.false) made.ensures.0 made.ensures.1 cabs.ensures
+    let a = c.args in
+    let none = rw c.len-films.ensures.value at c.in_default.ensures in
+    rw c.len-films.ensures.value (plays-accepted a.film_file.now.bytes.now a.desk.now a.room c.requires c.lines_of-lines.result.items c.lines_of-lines.ensures c.cabs_served-cabs.result none c.cabs_served-cabs.ensures)

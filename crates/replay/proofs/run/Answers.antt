@@ -1,65 +1,43 @@
-use native.Mathlib.Omega.{arith}
-use borrow.Author.Tests.{not-true, not-false}
-use Rattle.model.specs.Code.{state_of}
+use Rattle.std.proofs.Common.{rules}
+use Rattle.model.specs.Code.{state_in}
 use Rattle.questions.specs.Given.{setting_at}
 use Rattle.replay.proofs.Pictured.{pictured-between}
-use Rattle.replay.proofs.LoopLaws.{going-first, going_next, going-full, going_end}
+use Rattle.replay.proofs.LoopLaws.{given-back, going_next, going-full, going_end}
 use Rattle.replay.proofs.run.Goals as goal
 
-pub loop-i-init : goal.loop-i-init
-loop-i-init c =
-    let start = c in
-    let a = start.args in
-    going-first a.file.now a.day a.rows a.places a.journal.now a.log.now a.opens.now a.reserves.now a.helds.now _ start.requires.1
+pub step-requires-clause-between : goal.step-requires-clause-between
+step-requires-clause-between c =
+    let l = c.loop-i in
+    pictured-between (setting_at c.args.file.now.bytes.now l.desk.day) (state_in l.desk l.sheet) l.invariant.going.pictured
 
-pub step-stepped-requires : goal.step-stepped-requires
-step-stepped-requires c =
-    let turn = c in
-    let l = turn.loop-i in
-    let start = turn in
-    let a = start.args in (
-      l.invariant.placed,
-      start.requires.0,
-      pictured-between (setting_at a.file.now l.today) (state_of l.today l.list a.places l.opens l.reserves l.helds) l.invariant.pictured,
-    )
-
-pub returns-then-not-stepped : goal.returns-then-not-stepped
-returns-then-not-stepped c =
-    let called = c in
-    let turn = called in
-    let l = turn.loop-i in
-    let start = turn in
-    let a = start.args in
-    let s = rw called.entry_at-entry.ensures at called.step-stepped.ensures in
-    let last = called.step-stepped.new in
-    going-full a.file.now a.day a.rows a.places a.journal.now a.log.now a.opens.now a.reserves.now a.helds.now _
-    l.log l.opens l.reserves l.helds l.today l.list l.at l.i l.invariant
-    turn.loop-i-test.true called.step-stepped.result last.log last.opens last.reserves last.helds (s.kept (not-true _ c.if-not-stepped.true))
-
-pub overflow_add-i : goal.overflow_add-i
-overflow_add-i c =
-    let turn = c in
-    let start = turn in
-    record { fits = omega (arith, turn.loop-i-test.true, start.well_formed) }
+pub returns-then-not-step-clause-replays : goal.returns-then-not-step-clause-replays
+returns-then-not-step-clause-replays c =
+    let x = c.args in
+    let l = c.loop-i in
+    let s = rw c.entry_at.ensures at c.step.ensures.steps in
+    let last = c.step.new in
+    given-back _ _ _ _ _ _ _
+    (going-full x.file.now.bytes.now x.desk.now x.sheet.now x.journal.now x.words.now _ l.log l.desk l.sheet l.i l.invariant.going
+    c.loop-i-test.true last.desk last.sheet last.log (s.kept c.if-not-step.true)) (search rules)
 
 pub loop-i-preserved : goal.loop-i-preserved
 loop-i-preserved c =
-    let called = c in
-    let turn = called in
-    let l = turn.loop-i in
-    let start = turn in
-    let a = start.args in
-    let s = rw called.entry_at-entry.ensures at called.step-stepped.ensures in
-    let last = called.step-stepped.new in
-    let kept = called.step-stepped.auto in
-    going_next a.file.now a.day a.rows a.places a.journal.now a.log.now a.opens.now a.reserves.now a.helds.now _
-    l.log l.opens l.reserves l.helds l.today l.list l.at l.i l.invariant
-    turn.loop-i-test.true called.step-stepped.result last.log last.opens last.reserves last.helds (s.took (not-false _ c.if-not-stepped.false))
-    kept.opens kept.reserves kept.helds
-
-pub returns : goal.returns
-returns c =
+    let x = c.args in
     let l = c.loop-i in
-    let a = c.args in
-    going_end a.file.now a.day a.rows a.places a.journal.now a.log.now a.opens.now a.reserves.now a.helds.now _
-    l.log l.opens l.reserves l.helds l.today l.list l.at l.i l.invariant c.loop-i-test.false
+    let s = rw c.entry_at.ensures at c.step.ensures.steps in
+    let last = c.step.new in
+    record {
+      going =
+          going_next x.file.now.bytes.now x.desk.now x.sheet.now x.journal.now x.words.now _ l.log l.desk l.sheet l.i l.invariant.going
+          c.loop-i-test.true last.desk last.sheet last.log (s.took c.if-not-step.false);
+      places = search rules;
+      same_sheet = search rules;
+      same_log = search rules;
+    }
+
+pub returns-clause-replays : goal.returns-clause-replays
+returns-clause-replays c =
+    let x = c.args in
+    let l = c.loop-i in
+    given-back _ _ _ _ _ _ _
+    (going_end x.file.now.bytes.now x.desk.now x.sheet.now x.journal.now x.words.now _ l.log l.desk l.sheet l.i l.invariant.going c.loop-i-test.false) (search rules)

@@ -1,13 +1,14 @@
--- `run` meets its contract. The loop's invariant: the whole run is that of the entries done, whose words stand in the log, and of
--- the entries that follow, and the day is the plain day's picture. The measure is the entries that follow. Assumes nothing.
-use Prim.Native.Nat.{◌-◌}
+-- The whole run is that of the entries done, whose words stand in the log, and of the entries that follow, and the day is the plain
+-- day's picture.
+use Rattle.std.proofs.Common.{◌≡◌}
+use Rattle.model.specs.Code.{SameLists}
 use Rattle.replay.proofs.LoopLaws.{Going}
 use Rattle.replay.proofs.run.Given as goal
 
 abbrev pub invariant-loop-i : goal.invariant-loop-i
-invariant-loop-i l =
-    Going l.file l.initial.today l.initial.list l.places l.journal l.initial.log l.initial.opens l.initial.reserves l.initial.helds l.count l.log l.opens l.reserves l.helds l.today l.list l.at l.i
-
-abbrev pub decreases-loop-i : goal.decreases-loop-i
-decreases-loop-i l =
-    l.count - l.i
+invariant-loop-i l = record {
+  going : Going l.file.bytes.now l.initial.desk l.initial.sheet l.journal l.initial.log.words.now l.count l.log l.desk l.sheet l.i;
+  places : l.desk.places ≡ l.initial.desk.places;
+  same_sheet : SameLists l.initial.sheet l.sheet;
+  same_log : l.log.words.ghost_name ≡ l.initial.log.words.ghost_name;
+}

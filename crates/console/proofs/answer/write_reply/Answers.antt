@@ -1,21 +1,27 @@
--- `console::answer::write_reply` meets its contract: the answer's line and after it the report, which have room. Assumes nothing.
-use native.Mathlib.Omega.{arith}
-use Rattle.text.proofs.Digits.{answer-length}
-use Rattle.text.proofs.Writing.{then-wrote}
+-- `console::answer::write_reply` meets its contract: each line is written after those before it, with room. Assumes nothing.
+use Rattle.std.proofs.Common.{rules, arith, ◌∙◌, take_all}
+use Rattle.console.proofs.Writing.{place-room, reply-room, reply-next}
 use Rattle.console.proofs.answer.write_reply.Goals as goal
 
-pub write_lines-requires : goal.write_lines-requires
-write_lines-requires c =
-    let first = c.write_first-next in
-    let a = c.args in (
-      omega arith,
-      omega (arith, first.ensures.place, first.auto.out, answer-length a.name a.round a.answer),
-    )
+pub unwrap-at-requires : goal.unwrap-at-requires
+unwrap-at-requires c =
+    let a = c.args in
+    let loop = c.loop-line in
+    let room = reply-room a.out.now a.name a.round a.answer a.lines.now loop.line-index c.requires.lines c.requires.room loop.at loop.out loop.invariant.1 loop.invariant.2 in
+    let some = c.write_line.ensures.value ∙ place-room loop.out loop.at _ room in
+    search rules
+
+pub loop-line-preserved : goal.loop-line-preserved
+loop-line-preserved c =
+    let a = c.args in
+    let loop = c.loop-line in
+    let next = reply-next a.out.now a.name a.round a.answer a.lines.now loop.line-index c.requires.lines c.requires.room c.loop-line-test.true
+    loop.out loop.at loop.invariant.0 loop.invariant.1 loop.invariant.2 _ _ _
+    c.write_line.ensures.out_after c.write_line.ensures.value c.unwrap-at.ensures in
+    (next.0, next.1, omega (arith, c.write_line.auto.out, loop.invariant.2))
 
 pub returns : goal.returns
 returns c =
-    let lines = c.write_lines in
-    let count = c.line_count-count in
-    let first = c.write_first-next in
-    let a = c.args in
-    rw count.ensures at (then-wrote first.ensures lines.ensures (omega (arith, answer-length a.name a.round a.answer)))
+    let loop = c.loop-line in
+    let all = take_all loop.line-index c.args.lines.now c.loop-line-test.false in
+    record { buffer = rw all at loop.invariant.0; count = rw all at loop.invariant.1 }

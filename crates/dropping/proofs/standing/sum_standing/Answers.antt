@@ -1,23 +1,24 @@
--- `dropping::standing::sum_standing` meets its contract: the streams of a sound list are playable, and what they hold in a round, the
--- bookings do. Assumes nothing.
-use native.Mathlib.Omega.{arith}
-use Rattle.dropping.specs.StandingLaws.{stands-summable, summed-worked}
+-- `dropping::standing::sum_standing` meets its contract: the streams of a sound list are playable, and what they hold in a
+-- round, the bookings do. Assumes nothing.
+use Rattle.std.proofs.Common.{take}
+use Rattle.questions.specs.ListSound.{streams-made}
+use Rattle.dropping.proofs.StandingLaws.{stands-summable, summed-worked}
 use Rattle.dropping.proofs.standing.sum_standing.Goals as goal
 
 pub sum_sheet-requires : goal.sum_sheet-requires
 sum_sheet-requires c =
-    let made = c in
-    let start = made in
-    let a = start.args in
-    stands-summable a.file.now a.c a.day a.rows a.count a.opens.now a.reserves.now a.helds.now start.requires (omega arith)
-    made.streams_of-xs.result made.streams_of-xs.ensures
+    let file = c.args.film_file.now in
+    let desk = c.args.desk.now in
+    let xs = c.streams_of-xs.result.items in
+    let made = streams-made file.bytes.now (take desk.day.count desk.rows) file.films.items _ xs file.accepted file.catalogue c.deref.ensures.0 c.streams_of-xs.ensures in
+    rw c.deref-2.ensures.0 (stands-summable file.bytes.now desk c.args.sheet.now c.requires file.accepted xs made)
 
-pub returns : goal.returns
-returns c =
-    let laid = c in
-    let made = laid in
-    let start = made in
-    let a = start.args in
-    let after = laid.sum_sheet.new in
-    summed-worked a.file.now a.c a.day a.rows a.count a.opens.now a.reserves.now a.helds.now start.requires (omega (arith, start))
-    made.streams_of-xs.result made.streams_of-xs.ensures after.opens after.reserves after.helds laid.sum_sheet.ensures
+pub returns-clause-summed : goal.returns-clause-summed
+returns-clause-summed c =
+    let file = c.args.film_file.now in
+    let desk = c.args.desk.now in
+    let xs = c.streams_of-xs.result.items in
+    let made = streams-made file.bytes.now (take desk.day.count desk.rows) file.films.items _ xs file.accepted file.catalogue c.deref.ensures.0 c.streams_of-xs.ensures in
+    let after = c.sum_sheet.new.sheet in
+    summed-worked file.bytes.now desk c.args.sheet.now c.requires file.accepted xs made after.opens.now after.reserves.now after.helds.now
+    (rw c.deref-2.ensures.0 at c.sum_sheet.ensures.summed)

@@ -1,44 +1,29 @@
-use Prim.Native.Nat.{◌+◌, ◌*◌}
-use mathlib.Core.Path.{sym}
-use native.Mathlib.Omega.{arith}
-use Rattle.films.proofs.Reading.{reading-none, reading-more, reading-stops, entries-refused, entries-listed}
+use Rattle.std.proofs.Common.{length, sym, ap, ◌∙◌, arith}
+use Rattle.films.proofs.Laws.{reading-none, order-refused, count-refused, reading-more, reading-all}
+use Rattle.films.proofs.Span.{length-span}
+use Rattle.films.specs.Catalogue.{entry_of}
 use Rattle.films.proofs.entries.entries.Goals as goal
 
 pub loop-i-init : goal.loop-i-init
-loop-i-init c =
-    let a = c.args in
-    let e = c.refused-blank.ensures in
-    reading-none a.file.now a.count c.refused-blank.result e
+loop-i-init c = rw c.new-films.ensures (reading-none c.args.file.now c.args.count c.requires.count c.requires.few)
 
-pub returns-then-answer-ne0 : goal.returns-then-answer-ne0
-returns-then-answer-ne0 c =
-    let e = c.before.before in
-    let n = e.before in
-    let k = n.before in
-    let l = k.before.before in
-    let s = l.args in
-    let r = l.loop-i in
-    let no = c.if-answer-ne0.true in
-    let stop = reading-stops s.file.now s.count r.numbers r.rounds r.offsets r.least r.total r.i r.invariant (omega arith)
-    k.half_at-number.result n.half_at-n.result e.entry-answer.result k.half_at-number.ensures n.half_at-n.ensures e.entry-answer.ensures no in
-    rw c.refused.ensures (sym (entries-refused s.file.now s.count e.entry-answer.result l.requires.0 stop no))
+pub returns-then-not-rises-clause-answer : goal.returns-then-not-rises-clause-answer
+returns-then-not-rises-clause-answer c =
+    sym (order-refused _ _ _ _ _ _ c.loop-i.invariant c.loop-i-test.true _ _ c.half_at-film.ensures c.half_at-rounds.ensures (sym c.rises.ensures ∙ c.if-not-rises.true))
+
+pub returns-then-not-few-clause-answer : goal.returns-then-not-few-clause-answer
+returns-then-not-few-clause-answer c =
+    sym (count-refused _ _ _ _ _ _ c.loop-i.invariant c.loop-i-test.true _ _ c.half_at-film.ensures c.half_at-rounds.ensures (sym c.rises.ensures ∙ c.if-not-rises.false) (sym c.few.ensures ∙ c.if-not-few.true))
+
+pub push-requires : goal.push-requires
+push-requires c =
+    let e = ap length c.loop-i.invariant.films-are ∙ length-span (entry_of c.args.file.now) 0 c.loop-i.i in
+    (omega arith, omega arith)
 
 pub loop-i-preserved : goal.loop-i-preserved
 loop-i-preserved c =
-    let e = c.before in
-    let n = e.before in
-    let k = n.before in
-    let l = k.before.before in
-    let s = l.args in
-    let r = l.loop-i in
-    reading-more s.file.now s.count r.numbers r.rounds r.offsets r.least r.total r.i r.invariant (omega arith)
-    k.half_at-number.result n.half_at-n.result e.entry-answer.result k.half_at-number.ensures n.half_at-n.ensures e.entry-answer.ensures c.if-answer-ne0.false
-    l.requires.1 (6 + 4 * s.count + 4 * r.total) (omega (arith, l.requires))
+    rw (c.push.ensures.items, c.from.ensures)
+    (reading-more _ _ _ _ _ _ c.loop-i.invariant c.loop-i-test.true _ _ c.half_at-film.ensures c.half_at-rounds.ensures (sym c.rises.ensures ∙ c.if-not-rises.false) (sym c.few.ensures ∙ c.if-not-few.false))
 
-pub returns : goal.returns
-returns c =
-    let l = c.before in
-    let s = l.args in
-    let r = l.loop-i in
-    sym
-    (entries-listed s.file.now s.count r.numbers r.rounds r.offsets r.least r.total r.i r.invariant (omega arith) (omega arith))
+pub returns-clause-list : goal.returns-clause-list
+returns-clause-list c = (reading-all _ _ _ _ _ _ c.loop-i.invariant c.requires.count (omega arith)).0

@@ -4,5 +4,8 @@ use Rattle.lent.proofs.desk.playback_play.Goals as goal
 pub returns : goal.returns
 returns c =
     let x = c.args in
-    play-over x.file.now x.day x.records.now c.load-rows.result c.load-rows.ensures x.report.now c.play_round-done.result _ _
-    c.play_round-done.ensures c.reply_of.ensures c.write.ensures
+    let made = c.desk_of-desk in
+    let p = c.play-played in
+    let lines = c.deref.ensures in
+    play-over x.file.now x.day x.records.now made.result made.ensures x.report.now p.result.answer p.result.lines.items p.new.desk _ _ p.ensures
+    (rw lines.0 at lines.1) c.new.ensures (rw lines.0 at c.store.ensures)

@@ -1,14 +1,10 @@
--- `load::names::names_differ` meets its contract. The invariant: the answer is that of the bookings from i on. The measure is what is
--- left of them. Assumes nothing.
-use mathlib.Core.Path.{◌≡◌}
-use Prim.Native.Nat.{◌-◌, ◌≤◌}
-use lib.ListN.{take}
-use lib.Seq.{slice}
+-- The invariant: the answer is that of the bookings that are left, and the measure is how many they are.
+use Rattle.std.proofs.Common.{◌≡◌, length}
 use Rattle.model.specs.Soundness.{names_differ}
 use Rattle.load.proofs.names.names_differ.Given as goal
 
-abbrev pub invariant-loop-i : goal.invariant-loop-i
-invariant-loop-i l = (l.i ≤ l.count) × (names_differ (take l.count l.rows) ≡ names_differ (slice l.i l.count l.rows))
+abbrev pub invariant-loop-rest : goal.invariant-loop-rest
+invariant-loop-rest l = names_differ l.rows ≡ names_differ l.rest
 
-abbrev pub decreases-loop-i : goal.decreases-loop-i
-decreases-loop-i l = l.count - l.i
+abbrev pub decreases-loop-rest : goal.decreases-loop-rest
+decreases-loop-rest l = length l.rest

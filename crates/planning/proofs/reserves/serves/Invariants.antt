@@ -1,8 +1,5 @@
--- `planning::reserves::serves` meets its contract. The invariant: c is the carry of the sizes from i on, and their peak is at
--- most cap. The measure is i. Assumes nothing.
-use mathlib.Core.Path.{◌≡◌}
-use Prim.Native.Nat.{◌≤◌}
-use lib.ListN.{drop}
+-- left is the carry of the sizes from i on, and their peak is at most the cap
+use Rattle.std.proofs.Common.{◌≡◌, ◌≤◌, drop}
 use Rattle.laws.specs.Sums.{largest}
 use Rattle.films.specs.Sizes.{sizes}
 use Rattle.retrieval.specs.Carry.{carry, profile}
@@ -11,10 +8,8 @@ use Rattle.planning.proofs.reserves.serves.Given as goal
 
 abbrev pub invariant-loop-i : goal.invariant-loop-i
 invariant-loop-i l =
-    (l.i ≤ l.n)
-    × (l.c ≡ carry l.b (drop l.i (sizes l.file l.at l.n)))
-    × (largest (profile l.b (drop l.i (sizes l.file l.at l.n))) ≤ l.cap)
-    × (l.c ≤ max_held)
-
-abbrev pub decreases-loop-i : goal.decreases-loop-i
-decreases-loop-i l = l.i
+    record {
+      carried : l.left ≡ carry l.film.reserve (drop l.i (sizes l.film.sizes.file.now l.film.sizes.at l.film.sizes.rounds));
+      peak : largest (profile l.film.reserve (drop l.i (sizes l.film.sizes.file.now l.film.sizes.at l.film.sizes.rounds))) ≤ l.cap;
+      small : l.left ≤ max_held;
+    }

@@ -1,44 +1,43 @@
--- `planning::schedules::schedule` meets its contract: the file's questions, the film's, and the rest by `plan`.
--- Assumes nothing.
-use Rattle.planning.proofs.FileAnswers.{made-verdict, made-accepted, made_found, made-missing, schedule-file, schedule-missing, schedule-found}
+-- The file's questions, the film's, and the rest by `plan`.
+use Rattle.std.proofs.Common.{◌≡◌, length, sym, ◌∙◌}
+use Rattle.films.specs.Questions.{verdict}
+use Rattle.films.specs.Layout.{sizes_of}
+use Rattle.films.specs.Decode.{films_of}
+use Rattle.films.specs.Lookup.{FoundAt}
+use Rattle.planning.specs.Answers.{plan_questions, schedule_questions}
+use Rattle.planning.proofs.FileAnswers.{missing-film, found-film, asked-file, asked-missing, schedule-refused, schedule-found}
 use Rattle.planning.proofs.schedules.schedule.Goals as goal
 
-pub returns-then-films-ne0 : goal.returns-then-films-ne0
-returns-then-films-ne0 c =
+pub returns-in_err-films : goal.returns-in_err-films
+unfolding schedule_questions
+returns-in_err-films c =
     let a = c.args in
     let s = a.file.now in
-    let made = c.catalogue-films in
-    let w = schedule-file s a.film a.p a.b a.out.now made.result.verdict (made-verdict s made.result made.ensures) c.if-films-ne0.true in
+    let q = asked-file s a.film (plan_questions (sizes_of (films_of s) a.film) a.p a.b (length a.out.now)) c.in_err-films.field-0.0 c.in_err-films.ensures.verdict in
+    let w = schedule-refused s a.film a.p a.b a.out.now _ _ c.from_residual.ensures q in
     record { answer = w.0; places = w.1.0; said = w.1.1 }
 
-pub plan-requires : goal.plan-requires
-plan-requires c =
-    let looked = c in
-    let made = looked.catalogue-films in
-    let a = looked.args in
+pub returns-in_err-sizes : goal.returns-in_err-sizes
+unfolding schedule_questions
+returns-in_err-sizes c =
+    let a = c.args in
     let s = a.file.now in
-    let ok = made-accepted s made.result made.ensures looked.if-films-ne0.false in
-    (made_found s a.film c.in-Found.at c.in-Found.n made.result looked.lookup-found.result ok made.ensures looked.lookup-found.ensures c.in-Found.is).stored
-
-pub returns-in-Found : goal.returns-in-Found
-returns-in-Found c =
-    let planned = c.plan in
-    let looked = c in
-    let made = looked.catalogue-films in
-    let a = looked.args in
-    let s = a.file.now in
-    let ok = made-accepted s made.result made.ensures looked.if-films-ne0.false in
-    let film = made_found s a.film c.in-Found.at c.in-Found.n made.result looked.lookup-found.result ok made.ensures looked.lookup-found.ensures c.in-Found.is in
-    let w = schedule-found s a.film a.p a.b a.out.now c.in-Found.at c.in-Found.n planned.result planned.new.out ok film planned.ensures in
+    let same = c.in_ok-films.ensures.bytes in
+    let accepted : verdict s ≡ 0 = rw same at c.in_ok-films.films.accepted in
+    let none = missing-film c.sizes.result c.in_err-sizes.field-0.0 c.in_err-sizes.ensures.value c.sizes.ensures.missing in
+    let q = asked-missing s a.film (plan_questions (sizes_of (films_of s) a.film) a.p a.b (length a.out.now)) accepted (rw same at none.0) ∙ sym none.1 in
+    let w = schedule-refused s a.film a.p a.b a.out.now _ _ c.from_residual-in_err-sizes.ensures q in
     record { answer = w.0; places = w.1.0; said = w.1.1 }
 
-pub returns-in-Missing : goal.returns-in-Missing
-returns-in-Missing c =
-    let looked = c in
-    let made = looked.catalogue-films in
-    let a = looked.args in
+pub returns : goal.returns
+returns c =
+    let a = c.args in
     let s = a.file.now in
-    let ok = made-accepted s made.result made.ensures looked.if-films-ne0.false in
-    let none = made-missing s a.film made.result looked.lookup-found.result ok made.ensures looked.lookup-found.ensures c.in-Missing.is in
-    let w = schedule-missing s a.film a.p a.b a.out.now ok none in
+    let z = c.in_ok-sizes.sizes in
+    let same = c.in_ok-films.ensures.bytes in
+    let accepted : verdict s ≡ 0 = rw same at c.in_ok-films.films.accepted in
+    let film = found-film _ a.film c.sizes.result z c.in_ok-sizes.ensures.value c.sizes.ensures.found c.sizes.ensures.bytes in
+    let found : FoundAt s a.film z.at z.rounds = rw same at film.0 in
+    let bytes : z.file.now ≡ s = film.1 ∙ same in
+    let w = schedule-found s a.film a.p a.b a.out.now z.at z.rounds c.plan.result c.plan.new.out accepted found (rw bytes at c.plan.ensures) in
     record { answer = w.0; places = w.1.0; said = w.1.1 }

@@ -1,8 +1,4 @@
--- `planning::schedules::total` meets its contract. The invariant: bytes is the sum of the sizes from i on. The measure is i.
--- Assumes nothing.
-use mathlib.Core.Path.{◌≡◌}
-use Prim.Native.Nat.{◌≤◌, ◌*◌, ◌-◌}
-use lib.ListN.{drop}
+use Rattle.std.proofs.Common.{◌≡◌, ◌≤◌, ◌*◌, take}
 use Rattle.limits.specs.Bounds.{max_size}
 use Rattle.laws.specs.Sums.{sum}
 use Rattle.films.specs.Sizes.{sizes}
@@ -10,7 +6,7 @@ use Rattle.planning.proofs.schedules.total.Given as goal
 
 abbrev pub invariant-loop-i : goal.invariant-loop-i
 invariant-loop-i l =
-    (l.i ≤ l.n) × (l.bytes ≡ sum (drop l.i (sizes l.file l.at l.n))) × (l.bytes ≤ max_size * (l.n - l.i))
-
-abbrev pub decreases-loop-i : goal.decreases-loop-i
-decreases-loop-i l = l.i
+    record {
+      so_far : l.bytes ≡ sum (take l.i (sizes l.film.file.now l.film.at l.film.rounds));
+      small : l.bytes ≤ max_size * l.i;
+    }

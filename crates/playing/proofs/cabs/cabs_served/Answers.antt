@@ -1,42 +1,23 @@
-use mathlib.Core.Path.{sym, ap, ◌∙◌}
-use Prim.Native.Nat.{ℕ, ◌+◌}
-use native.Mathlib.Omega.{arith}
-use lib.ListN.{get_or}
-use lib.Seq.{slice}
-use lib.Bits.{bit_or}
-use lib.Count.{ones}
-use Rattle.model.specs.Calls.{no_booking, cabs_joined}
+-- `playing::cabs::cabs_served` meets its contract: what the streams keep busy, the bookings do. Assumes nothing.
+use Rattle.std.proofs.Common.{rules, ◌≡◌, ◌∙◌, sym, ap, ℕ, take}
+use Rattle.std.specs.List.{fold}
+use Rattle.std.specs.Int.Bits.{bit_or}
+use Rattle.std.specs.Int.Count.{ones}
+use Rattle.load.specs.Streams.{stream_of}
+use Rattle.films.specs.Catalogue.{catalogue_of}
+use Rattle.films.proofs.CatalogueLaws.{catalogue-listed}
+use Rattle.model.specs.declared.Booking.{Booking}
+use Rattle.rounds.specs.Kept.{cabs_in}
 use Rattle.questions.specs.Given.{setting_at}
+use Rattle.playing.specs.CabLaws.{joined-streams}
 use Rattle.playing.specs.Ready.{row-tied}
-use Rattle.playing.specs.CabLaws.{cabs-tied, joined-next, joined_end}
 use Rattle.playing.proofs.cabs.cabs_served.Goals as goal
-
-pub offset_bounds-rows-i : goal.offset_bounds-rows-i
-offset_bounds-rows-i c = omega (arith, c.requires.few)
-
-pub bounds-rows-i : goal.bounds-rows-i
-bounds-rows-i c = omega (arith, c.requires.few)
-
-pub loop-i-preserved : goal.loop-i-preserved
-loop-i-preserved c =
-    let made = c.stream_of-x in
-    let l = c.loop-i in
-    let start = c in
-    let a = start.args in
-    let S = setting_at a.file.now a.day in
-    let few = start.requires.few in
-    let tied = row-tied a.file.now a.c a.day a.rows start.requires (omega arith) l.i (omega arith) made.result made.ensures in
-    let same = c.cabs_in-taken.ensures ∙ cabs-tied S a.file.now a.day.now (get_or a.rows l.i no_booking) made.result tied in
-    let next = joined-next S a.day.now l.taken a.rows l.i a.day.count no_booking (omega arith) (omega arith) in (
-      omega arith,
-      l.invariant.1 ∙ next
-          ∙ ap (λ (m : ℕ). cabs_joined S a.day.now (bit_or l.taken m) (slice (l.i + 1) a.day.count a.rows)) (sym same),
-    )
 
 pub returns : goal.returns
 returns c =
-    let l = c.loop-i in
-    let start = c in
-    let a = start.args in
-    let S = setting_at a.file.now a.day in
-    c.count_of.ensures ∙ ap ones (sym (l.invariant.1 ∙ joined_end S a.day.now l.taken a.rows l.i a.day.count (omega arith)))
+    let file = c.args.film_file.now in
+    let desk = c.args.desk.now in
+    let rows = take desk.day.count desk.rows in
+    let joined : c.fold-joined.result ≡ fold (λ (taken : ℕ) (b : Booking). bit_or taken (cabs_in desk.day.now (stream_of file.films.items b))) 0 rows = search rules in
+    let films = file.catalogue ∙ sym (catalogue-listed file.bytes.now file.accepted) in
+    ap ones (rw films at joined ∙ joined-streams (setting_at file.bytes.now desk.day) file.bytes.now desk.day.now (stream_of (catalogue_of file.bytes.now)) (row-tied file.bytes.now desk file.accepted) 0 rows)

@@ -1,7 +1,4 @@
-use mathlib.Core.Path.{refl, ◌∙◌}
-use Prim.Native.Nat.{◌+◌, ◌-◌}
-use native.Mathlib.Omega.{arith}
-use lib.ListN.{length, length-set}
+use Rattle.std.proofs.Common.{refl, ◌∙◌, ◌+◌, ◌-◌, length, length-set, arith}
 use Rattle.load.specs.Stream.{holds_in}
 use Rattle.rounds.specs.CarryLaws.{carry-round}
 use Rattle.rounds.specs.TableLaws.{fill_none, fill-next, fill-all}
@@ -9,32 +6,30 @@ use Rattle.rounds.proofs.block.write_helds.Goals as goal
 
 pub loop-k-init : goal.loop-k-init
 loop-k-init c =
-    let start = c in
-    let a = start.args in
-    let part = a.part.now in
-    (omega arith, refl, start.requires.2, fill_none (λ t. holds_in a.file.now t a.x) a.from (length part) part refl)
+    let a = c.args in
+    record { size = refl; carried = c.requires.1; written = fill_none (λ t. holds_in a.x.now.file.now t a.x.now.stream) a.from (length a.part.now) a.part.now refl }
 
-pub held_in-h-requires : goal.held_in-h-requires
-held_in-h-requires c =
-    let start = c in
-    let a = start.args in
+pub held_in-turn-requires : goal.held_in-turn-requires
+held_in-turn-requires c =
+    let a = c.args in
     let l = c.loop-k in
-    (start.requires.0, carry-round a.file.now a.x l.c (a.from + l.k) _ (omega (arith, c.loop-k-test.true)) l.invariant.2)
+    (carry-round a.x.now.file.now a.x.now.stream l.left (a.from + l.k) _ (omega arith) l.invariant.carried)
 
 pub loop-k-preserved : goal.loop-k-preserved
 loop-k-preserved c =
     let a = c.args in
     let l = c.loop-k in
-    let r = c.held_in-h in (
-      omega arith,
-      length-set l.part (l.k - 1) r.result.held ∙ l.invariant.1,
-      r.ensures.carried,
-      fill-next (λ t. holds_in a.file.now t a.x) a.from (length a.part.now) l.part l.invariant.1 l.k r.result.held (omega arith)
-          (omega arith) l.invariant.3 r.ensures.held,
-    )
+    let r = c.held_in-turn in
+    record {
+      size = length-set l.part (l.k - 1) r.result.held ∙ l.invariant.size;
+      carried = r.ensures.carried;
+      written =
+          fill-next (λ t. holds_in a.x.now.file.now t a.x.now.stream) a.from (length a.part.now) l.part l.invariant.size l.k r.result.held (omega arith)
+          (omega arith) l.invariant.written r.ensures.held;
+    }
 
 pub returns : goal.returns
 returns c =
     let a = c.args in
     let l = c.loop-k in
-    fill-all (λ t. holds_in a.file.now t a.x) a.from (length a.part.now) l.part l.invariant.1 l.k (omega arith) l.invariant.3
+    fill-all (λ t. holds_in a.x.now.file.now t a.x.now.stream) a.from (length a.part.now) l.part l.invariant.size l.k (omega arith) l.invariant.written

@@ -7,15 +7,13 @@ use Rattle.rounds.proofs.block.write_row.Goals as goal
 
 pub write_helds-requires : goal.write_helds-requires
 write_helds-requires c =
-    let start = c in
-    let a = start.args in
+    let a = c.args in
     let head = c.write_head in
-    let e = row-part a.x a.n a.part.now head.new.part head.ensures start.requires.3 in
-    (start.requires.0, omega (arith, e), carry-round a.file.now a.x a.carry (a.from + a.n) _ (omega (arith, e)) start.requires.2)
+    let e = row-part a.x.now.stream a.n a.part.now head.new.part head.ensures c.requires.2 in
+    (omega (arith, e), carry-round a.x.now.file.now a.x.now.stream a.carry (a.from + a.n) _ (omega (arith, e)) c.requires.1)
 
 pub returns : goal.returns
 returns c =
-    let start = c in
-    let a = start.args in
+    let a = c.args in
     let head = c.write_head in
-    row_back a.x a.n a.part.now head.new.part head.ensures start.requires.3 a.file.now a.from _ c.write_helds.ensures
+    row_back a.x.now.stream a.n a.part.now head.new.part head.ensures c.requires.2 a.x.now.file.now a.from _ c.write_helds.ensures

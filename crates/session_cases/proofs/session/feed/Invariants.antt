@@ -1,6 +1,6 @@
--- The measure is what is left of the bytes: serving a line moves on by at least one.
-use Rattle.std.proofs.Common.{◌-◌, length}
+-- The measure is what is left of the bytes: serving a line leaves fewer.
+use Rattle.std.proofs.Common.{length}
 use Rattle.session_cases.proofs.session.feed.Given as goal
 
-abbrev pub decreases-loop-at : goal.decreases-loop-at
-decreases-loop-at g l = length l.bytes - l.at
+abbrev pub decreases-loop-rest : goal.decreases-loop-rest
+decreases-loop-rest g l = length l.rest

@@ -1,0 +1,3 @@
+pub mod RemovalLaws
+pub mod StandingLaws
+pub mod Laws

@@ -1,6 +1,0 @@
--- The measure is the rounds left.
-use Rattle.std.proofs.Common.{◌+◌, ◌-◌}
-use Rattle.figures.proofs.schedules.held_of.Given as goal
-
-abbrev pub decreases-loop-t : goal.decreases-loop-t
-decreases-loop-t l = (l.p + l.n) - l.t

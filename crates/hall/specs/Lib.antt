@@ -1,2 +1,0 @@
--- Definitions of the program.
-pub mod Counts

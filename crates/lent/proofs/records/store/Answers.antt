@@ -1,8 +1,0 @@
-use Rattle.std.proofs.Common.{arith}
-use Rattle.lent.proofs.Lists.{copied_next}
-use Rattle.lent.proofs.records.store.Goals as goal
-
-pub loop-i-preserved : goal.loop-i-preserved
-loop-i-preserved c =
-    let next = copied_next c.args.list.now c.args.rows c.loop-i.i _ (omega arith) (omega arith) in
-    (omega arith, rw c.loop-i.invariant.1 next)

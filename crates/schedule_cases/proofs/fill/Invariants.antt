@@ -1,6 +1,0 @@
--- The measure is the places left.
-use Rattle.std.proofs.Common.{◌-◌, length}
-use Rattle.schedule_cases.proofs.fill.Given as goal
-
-abbrev pub decreases-loop-i : goal.decreases-loop-i
-decreases-loop-i l = length l.out - l.i
