@@ -1,4 +1,4 @@
-//! The C header, the scheduler's own constants and this crate have the same numbers under the same names.
+//! The C header, the scheduler's own refusals and constants and this crate have the same numbers under the same names.
 
 use playback::{limits, Refusal};
 use std::collections::BTreeMap;
@@ -17,6 +17,24 @@ fn constants(path: &str) -> BTreeMap<String, u64> {
         let (name, rest) = line.strip_prefix("pub const ")?.split_once(':')?;
         let number = rest.split_once('=')?.1.trim().strip_suffix(';')?;
         Some((name.to_string(), number.parse().ok()?))
+    });
+    lines.collect()
+}
+
+/// `VariantName = NUMBER,` as `VARIANT_NAME`
+fn variants(path: &str) -> BTreeMap<String, u64> {
+    let text = text(path);
+    let lines = text.lines().filter_map(|line| {
+        let (variant, rest) = line.strip_prefix("    ")?.split_once(" = ")?;
+        let number = rest.strip_suffix(',')?.parse().ok()?;
+        let mut name = String::new();
+        for letter in variant.chars() {
+            if letter.is_ascii_uppercase() && !name.is_empty() {
+                name.push('_');
+            }
+            name.push(letter.to_ascii_uppercase());
+        }
+        Some((name, number))
     });
     lines.collect()
 }
@@ -49,10 +67,10 @@ fn header_meaning(name: &str) -> String {
 
 #[test]
 fn refusals_are_the_schedulers() {
-    let constants = constants("crates/limits/src/refusals.rt");
-    assert_eq!(header("PLAYBACK_REFUSED_"), constants);
-    assert_eq!(constants.len(), 25);
-    for (name, number) in constants {
+    let refusals = variants("crates/limits/src/refusals.rt");
+    assert_eq!(header("PLAYBACK_REFUSED_"), refusals);
+    assert_eq!(refusals.len(), 25);
+    for (name, number) in refusals {
         let refusal = Refusal::from_number(number as u32).expect("a refusal");
         let variant = format!("{refusal:?}").to_lowercase();
         assert_eq!(variant, name.replace('_', "").to_lowercase());
