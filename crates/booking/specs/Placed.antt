@@ -87,10 +87,10 @@ module _ (f : List ℕ) (desk : Desk) (sheet : Sheet) (q : Request) where
   unfolding book_questions day_in_range rounds_in_range limits_in_range sheet_long sound standing_asks day_holds rounds_hold limits_hold sheet_holds sound_holds
   asks-parted = refl
 
-  -- a refusal before 22: nothing changes
-  leaves-refused : (e : Refusal) → refusal (book_questions S d q) ≡ number_of e → Leaves S (book_call S d q) (Refused (number_of e)) desk sheet
+  -- a number before 22: nothing changes
+  pub leaves-refused : (n : ℕ) → n ≡ refusal (book_questions S d q) → (n ≡ 0 → ⊥) → Leaves S (book_call S d q) (Refused n) desk sheet
   unfolding book_call
-  leaves-refused e n = rw n (go (number_of e) (number-not_zero e))
+  leaves-refused n e some = rw (← e) (go n some)
     where
       go : (m : ℕ) → (m ≡ 0 → ⊥) → Leaves S (book_with S d q m (start_of S d q)) (Refused m) desk sheet
       go zero j = absurd (j refl)
@@ -98,9 +98,11 @@ module _ (f : List ℕ) (desk : Desk) (sheet : Sheet) (q : Request) where
 
   pub standing-refused : (e : Refusal) → number_of e ≡ refusal standing → Leaves S (book_call S d q) (Refused (number_of e)) desk sheet
   standing-refused e n =
-      leaves-refused e
+      leaves-refused (number_of e)
+      (sym
       (ap refusal asks-parted
-      ∙ standing-first f desk (length sheet.opens.now) (length sheet.reserves.now) (length sheet.helds.now) own e n)
+      ∙ standing-first f desk (length sheet.opens.now) (length sheet.reserves.now) (length sheet.helds.now) own (number_of e) n (number-not_zero e)))
+      (number-not_zero e)
 
   -- once the others have passed, its own questions decide
   own-decides : refusal standing ≡ 0 → refusal (book_questions S d q) ≡ refusal own
@@ -108,7 +110,7 @@ module _ (f : List ℕ) (desk : Desk) (sheet : Sheet) (q : Request) where
       ap refusal asks-parted ∙ standing-after f desk (length sheet.opens.now) (length sheet.reserves.now) (length sheet.helds.now) own n
 
   pub own-refused : (e : Refusal) → refusal standing ≡ 0 → number_of e ≡ refusal own → Leaves S (book_call S d q) (Refused (number_of e)) desk sheet
-  own-refused e n k = leaves-refused e (own-decides n ∙ sym k)
+  own-refused e n k = leaves-refused (number_of e) (k ∙ sym (own-decides n)) (number-not_zero e)
 
   pub own-passed : refusal standing ≡ 0 → 0 ≡ refusal own → refusal (book_questions S d q) ≡ 0
   own-passed n k = own-decides n ∙ sym k
@@ -325,6 +327,23 @@ module _ (f : List ℕ) (desk : Desk) (sheet : Sheet) (q : Request) where
               reserves = all.reserve-sums;
               helds = all.held-sums;
             })
+
+        -- each list is as long as it was
+        pub same-lengths : (after : Sheet)
+            → rounds.SheetOf f (xs ++ (start_at s y ∷ [])) s (end_of (start_at s y)) mid.opens.now mid.reserves.now mid.helds.now
+            after.opens.now after.reserves.now after.helds.now
+            → (length after.opens.now ≡ length sheet.opens.now)
+            × ((length after.reserves.now ≡ length sheet.reserves.now) × (length after.helds.now ≡ length sheet.helds.now))
+        same-lengths after again =
+            let all =
+            day-again f xs T sheet.opens.now sheet.reserves.now sheet.helds.now mid.opens.now mid.reserves.now mid.helds.now (start_at s y) (within s in_window.1)
+            after.opens.now after.reserves.now after.helds.now summed again in (
+              length-worked T _ sheet.opens.now after.opens.now all.films there.opens,
+              (
+                length-worked T _ sheet.reserves.now after.reserves.now all.reserved there.reserves,
+                length-worked T _ sheet.helds.now after.helds.now all.held there.helds,
+              ),
+            )
 
 -- .. as the code makes them, by the entries of an accepted file
 pub passed-by : (file : FilmFile) (desk : Desk) (sheet : Sheet) (q : Request) (films films' : List Entry) (xs : List Stream) (y : Stream)

@@ -6,10 +6,12 @@ pub mod request;
 
 ghost use Rattle.std.specs.Prelude.{◌≡◌, take};
 ghost use Rattle.laws.specs.Questions.{refusal};
+ghost use Rattle.retrieval.specs.Stored.{InRange};
 ghost use Rattle.model.specs.Calls.{book_questions};
 ghost use Rattle.model.specs.Code.{state_in, SameLists};
 ghost use Rattle.model.specs.FirstFit.{AnswersFirst};
-ghost use Rattle.model.specs.Fit.{FitsAt};
+ghost use Rattle.model.specs.Fit.{FitsAt, first_of};
+ghost use Rattle.search.specs.Fit.{query_in, fits_at, answer_of, Window};
 ghost use Rattle.questions.specs.Given.{setting_at};
 ghost use Rattle.questions.specs.Numbers.{asks_in};
 ghost use Rattle.booking.specs.Contract.{booked, Books};
@@ -21,11 +23,37 @@ use films::file::FilmFile;
 use limits::bounds::MAX_BOOKINGS;
 use limits::refusals::Refusal;
 use load::stream::{Stream, streams_of};
-use model::{Answer, Desk, Request, Sheet};
+use model::{Answer, Day, Desk, Request, Sheet};
 use questions::standing::read_standing;
 use request::{ask_own, record_of, requested};
 use rounds::sheet::sum_sheet;
 use search::first_start;
+
+// The first start of the request's window at which its stream fits beside the standing ones, whose sheet is the day's.
+fn start_in_window(
+    file: &[u8],
+    standing: &[Stream],
+    stream: Stream,
+    day: Day,
+    sheet: &Sheet<'_>,
+    request: Request,
+) -> Option<u64>
+    requires in_range { InRange file.now stream.at stream.rounds stream.prefetch stream.reserve }
+    requires window { Window (query_in file.now standing.now stream day sheet.now) request.last }
+    ensures { result ≡ answer_of (first_of (fits_at (query_in file.now standing.now stream day sheet.now)) request.first request.last) }
+{
+    first_start(
+        file,
+        standing,
+        stream,
+        day,
+        &*sheet.opens,
+        &*sheet.reserves,
+        &*sheet.helds,
+        request.first,
+        request.last,
+    )
+}
 
 // Places a request whose questions but 22 have passed, by the streams of the standing bookings and its own: the sheet of the
 // standing bookings is summed, and the first start of the window that fits gets a record, with which the rounds that it changes
@@ -44,15 +72,7 @@ fn place(
     ensures lists { SameLists sheet.old sheet.new }
 {
     sum_sheet(file, &standing, 0, desk.day.rounds as usize, sheet);
-    let Some(start) = first_start(
-        file,
-        &standing,
-        stream,
-        desk.day,
-        sheet,
-        request.first,
-        request.last,
-    ) else {
+    let Some(start) = start_in_window(file, &standing, stream, desk.day, sheet, request) else {
         return Err(Refusal::NoStart);
     };
     let placed = Stream {

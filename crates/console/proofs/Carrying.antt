@@ -7,7 +7,7 @@ use Rattle.limits.specs.Bounds.{hall_places}
 use Rattle.limits.specs.Refusals.{command_form}
 use Rattle.laws.specs.Questions.{refusal}
 use Rattle.model.specs.Day.{Setting, State}
-use Rattle.model.specs.Calls.{open_questions, open_with, open_call, book_call, drop_call, play_call}
+use Rattle.model.specs.Calls.{Outcome, open_questions, open_with, open_call, book_call, drop_call, play_call}
 use Rattle.model.specs.declared.Request.{Request}
 use Rattle.model.specs.declared.Line.{Line}
 use Rattle.model.specs.declared.Answer.{Answer}
@@ -18,10 +18,10 @@ use Rattle.questions.specs.Given.{setting_at}
 use Rattle.opening.specs.Contract.{asked, Opens}
 use Rattle.booking.specs.Contract.{Leaves}
 use Rattle.dropping.specs.Contract.{Drops}
-use Rattle.playing.specs.Lines.{no_line}
-use Rattle.playing.specs.Contract.{lines_for, Plays}
+use Rattle.playing.specs.Lines.{no_line, padded}
+use Rattle.playing.specs.Contract.{lines_in, told_lines, lines_for, Plays}
 use Rattle.commands.specs.declared.Command.TheVariants.{Open, Book, Drop, Play}
-use Rattle.console.specs.Session.{SessionState, lent_by, blank_report, outcome_of, day_after}
+use Rattle.console.specs.Session.{SessionState, lent_by, blank_report, outcome_of, lines_told, day_after}
 use Rattle.console.specs.Contract.{with_sheet, Carries}
 use Rattle.playing.specs.declared.Played.{Played}
 use Rattle.console.proofs.Laws.{silent, open-silent, book-silent, drop-silent, play-told}
@@ -37,7 +37,11 @@ records-kept S d = go (refusal (open_questions S d))
 
 -- an answer with no report
 abbrev pub alone : Answer → Played
-alone a = record { answer = a; lines = record { items = [] } }
+alone a = record { answer = a; lines = padded [] }
+
+-- of an answer that says none
+no_lines : (o : Outcome) (a : Answer) → a ≡ o.answer → lines_in o.answer ≡ 0 → told_lines a (padded []) ≡ lines_told o
+no_lines o a e none = ap (λ (n : ℕ). take n (padded [])) (ap lines_in e ∙ none) ∙ sym (silent o none)
 
 module _ (file : List ℕ) (desk : Desk) (sheet : Sheet) where
   abbrev before : SessionState
@@ -66,7 +70,8 @@ module _ (file : List ℕ) (desk : Desk) (sheet : Sheet) where
               helds = w.helds i;
             };
         answer = w.answer;
-        lines = sym (silent (open_call A lent) (open-silent A lent));
+        lines = no_lines (open_call A lent) a w.answer (open-silent A lent);
+        array = ap padded (sym (silent (open_call A lent) (open-silent A lent)));
       }
 
   pub book-carries : (q : Request) (a : Answer) (after : Desk) (sheet' : Sheet) → Leaves S (book_call S lent q) a after sheet'
@@ -83,7 +88,8 @@ module _ (file : List ℕ) (desk : Desk) (sheet : Sheet) where
               helds = w.helds i;
             };
         answer = w.answer;
-        lines = sym (silent (book_call S lent q) (book-silent S lent q));
+        lines = no_lines (book_call S lent q) a w.answer (book-silent S lent q);
+        array = ap padded (sym (silent (book_call S lent q) (book-silent S lent q)));
       }
 
   pub drop-carries : (name : ℕ) (a : Answer) (after : Desk) (sheet' : Sheet) → Drops S lent name a after sheet'
@@ -100,7 +106,8 @@ module _ (file : List ℕ) (desk : Desk) (sheet : Sheet) where
               helds = w.helds i;
             };
         answer = w.answer;
-        lines = sym (silent (drop_call S lent name) (drop-silent S lent name));
+        lines = no_lines (drop_call S lent name) a w.answer (drop-silent S lent name);
+        array = ap padded (sym (silent (drop_call S lent name) (drop-silent S lent name)));
       }
 
   pub none-carries : (after : Desk) → after.day ≡ desk.day → after.rows ≡ desk.rows
@@ -111,13 +118,15 @@ module _ (file : List ℕ) (desk : Desk) (sheet : Sheet) where
         state = λ i. record { day = d i; rows = r i; opens = sheet.opens.now; reserves = sheet.reserves.now; helds = sheet.helds.now };
         answer = refl;
         lines = refl;
+        array = refl;
       }
 
-  pub play-carries : (a : Answer) (given : List Line) (after : Desk)
-      → Plays file (record { day = desk.day; rows = desk.rows; places = hall_places }) hall_places a given after
-      → Carries file before (Some Play) (record { answer = a; lines = record { items = given } }) after sheet
+  pub play-carries : (r : Played) (after : Desk)
+      → Plays file (record { day = desk.day; rows = desk.rows; places = hall_places }) hall_places r.answer (told_lines r.answer r.lines) after
+      → r.lines ≡ padded (told_lines r.answer r.lines)
+      → Carries file before (Some Play) r after sheet
   unfolding outcome_of day_after
-  play-carries a given after w =
+  play-carries r after w behind =
       let o = play_call S lent blank_report in
       let room : length blank_report ≡ hall_places = length-replicate {A = Line} hall_places no_line in
       let opens = sheet.opens.now in
@@ -138,4 +147,5 @@ module _ (file : List ℕ) (desk : Desk) (sheet : Sheet) where
             };
         answer = sym answer;
         lines = w.lines ∙ told;
+        array = behind ∙ ap padded (w.lines ∙ told);
       }

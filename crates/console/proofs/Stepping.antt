@@ -12,7 +12,10 @@ use Rattle.text.proofs.Digits.{report-fits}
 use Rattle.console.specs.Session.{SessionState, outcome_of, state_after, name_in, lines_told, text_of, session_text}
 use Rattle.console.specs.Contract.{Carries, reply_text, in_front, after_of, step_of, printed}
 use Rattle.console.proofs.Laws.{told}
+use Rattle.playing.specs.Contract.{told_lines}
 use Rattle.playing.specs.declared.Played.{Played}
+use Rattle.model.specs.declared.Answer.{Answer}
+use Rattle.model.specs.declared.Line.{Line}
 use Rattle.model.specs.declared.Desk.{Desk}
 use Rattle.model.specs.declared.Sheet.{Sheet}
 
@@ -24,15 +27,18 @@ module _ (file : List ℕ) (s : SessionState) (c : Option Command) where
 
   module _ (k : Played) (desk : Desk) (sheet : Sheet) (w : Carries file s c k desk sheet) where
     -- the report's lines are few enough
-    pub step-few : length k.lines.items ≤ hall_places
+    pub step-few : length (told_lines k.answer k.lines) ≤ hall_places
     step-few = let t = told file s c in omega (arith, ap length w.lines, t.count, t.few)
 
     -- the reply is the text of the command
-    reply-same : (name : ℕ) → name ≡ name_in c → reply_text name s.day.now k.answer k.lines.items ≡ text_of file s c
-    reply-same name e = rw (e, w.answer, w.lines)
+    reply-same : (name : ℕ) → name ≡ name_in c → reply_text name s.day.now k.answer (told_lines k.answer k.lines) ≡ text_of file s c
+    reply-same name e =
+        ap₂ (λ (a : Answer) (ls : List Line). reply_text name s.day.now a ls) w.answer w.lines
+        ∙ ap (λ (n : ℕ). reply_text n s.day.now (outcome_of file s c).answer (lines_told (outcome_of file s c))) e
 
     pub step-done : (buffer : List ℕ) → output_bytes ≤ length buffer → (name : ℕ) → name ≡ name_in c → (new : List ℕ) (n : ℕ)
-        → new ≡ in_front (reply_text name s.day.now k.answer k.lines.items) buffer → n ≡ length (reply_text name s.day.now k.answer k.lines.items)
+        → new ≡ in_front (reply_text name s.day.now k.answer (told_lines k.answer k.lines)) buffer
+        → n ≡ length (reply_text name s.day.now k.answer (told_lines k.answer k.lines))
         → after_of desk sheet new n ≡ step_of file s c buffer
     unfolding step_of
     step-done buffer h name e new n p q =

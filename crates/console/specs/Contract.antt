@@ -8,6 +8,8 @@ use Rattle.commands.specs.declared.Command.{Command}
 use Rattle.text.specs.Text.{answer_text, report_text}
 use Rattle.text.specs.Digits.{output_bytes}
 use Rattle.console.specs.Session.{SessionState, outcome_of, state_after, lines_told, text_of}
+use Rattle.playing.specs.Lines.{padded}
+use Rattle.playing.specs.Contract.{told_lines}
 use Rattle.playing.specs.declared.Played.{Played}
 
 -- a desk with the sheet that is lent beside it; its list has 64 places, whatever the desk says
@@ -15,11 +17,12 @@ abbrev pub with_sheet : Desk → Sheet → SessionState
 with_sheet desk sheet =
     record { day = desk.day; rows = desk.rows; opens = sheet.opens.now; reserves = sheet.reserves.now; helds = sheet.helds.now }
 
--- a command carried out: the desk and the sheet, the answer, and the report's lines
+-- a command carried out: the desk and the sheet, the answer, and the report's lines in an array that has no line after them
 pub record Carries (file : List ℕ) (s : SessionState) (c : Option Command) (r : Played) (desk : Desk) (sheet : Sheet) : Type 0 where
   pub state : with_sheet desk sheet ≡ state_after file s c
   pub answer : r.answer ≡ (outcome_of file s c).answer
-  pub lines : r.lines.items ≡ lines_told (outcome_of file s c)
+  pub lines : told_lines r.answer r.lines ≡ lines_told (outcome_of file s c)
+  pub array : r.lines ≡ padded (lines_told (outcome_of file s c))
 
 -- the text of an answer and of its report's lines
 abbrev pub reply_text : ℕ → ℕ → Answer → List Line → List ℕ

@@ -1,15 +1,16 @@
 // A command carried out on the day: each is its call.
 ghost use Rattle.std.specs.Prelude.{◌≡◌, []};
+ghost use Rattle.limits.specs.Bounds.{hall_places};
 ghost use Rattle.model.specs.Code.{SameLists};
+ghost use Rattle.playing.specs.Lines.{padded};
 ghost use Rattle.console.specs.Contract.{with_sheet, Carries};
 
-use arrayvec::ArrayVec;
 use booking::book;
 use commands::Command;
 use dropping::drop_booking;
-use limits::bounds::HALL_PLACES;
+use limits::bounds::{HALL_PLACES, MAX_BOOKINGS};
 use limits::refusals::Refusal;
-use model::{Answer, Desk, Sheet};
+use model::{Answer, Desk, Line, Sheet};
 use opening::open;
 use playing::{Played, play};
 
@@ -18,11 +19,11 @@ pub const PLACES: u64 = HALL_PLACES as u64;
 
 // An answer with no report, told as a played round's is.
 fn without_lines(answer: Answer) -> Played
-    ensures { result ≡ record { answer = answer; lines = record { items = [] } } }
+    ensures { result ≡ record { answer = answer; lines = padded [] } }
 {
     Played {
         answer,
-        lines: ArrayVec::new(),
+        lines: [Line::default(); MAX_BOOKINGS],
     }
 }
 
@@ -34,6 +35,7 @@ pub fn carry_out(
     command: Option<Command>,
 ) -> Played
     ensures carried { Carries file.now (with_sheet desk.old sheet.old) command result desk.new sheet.new }
+    ensures places { desk.new.places ≡ hall_places }
     ensures lists { SameLists sheet.old sheet.new }
 {
     desk.places = PLACES;

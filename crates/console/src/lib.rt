@@ -5,6 +5,7 @@ pub mod answer;
 pub mod calls;
 
 ghost use Rattle.std.specs.Prelude.{◌≡◌};
+ghost use Rattle.limits.specs.Bounds.{hall_places};
 ghost use Rattle.model.specs.Code.{SameLists};
 ghost use Rattle.console.specs.Session.{start_desk, name_in};
 ghost use Rattle.console.specs.Contract.{with_sheet, after_of, step_of};
@@ -50,6 +51,7 @@ pub fn step(
     out: &mut [u8],
 ) -> usize
     ensures after { after_of desk.new sheet.new out.new result ≡ step_of file.now (with_sheet desk.old sheet.old) command out.old }
+    ensures places { desk.old.places ≡ hall_places → desk.new.places ≡ hall_places }
     ensures lists { SameLists sheet.old sheet.new }
 {
     if out.len() < OUTPUT_BYTES {
@@ -57,11 +59,5 @@ pub fn step(
     }
     let round = desk.day.now;
     let reply = carry_out(file, desk, sheet, command);
-    write_reply(
-        out,
-        name_of(command),
-        round,
-        reply.answer,
-        reply.lines.as_slice(),
-    )
+    write_reply(out, name_of(command), round, reply.answer, reply.lines())
 }

@@ -45,7 +45,8 @@ fn narrow_request(operation: Operation<'_>) -> Request {
 // Plays the round. The lines that it gives stand at the front of the report, over what stood there.
 fn call_play(file: &[u8], lent: &mut Lent) -> Answer {
     let played = play(file, &mut lent.desk, lent.room);
-    lent.report[..played.lines.len()].copy_from_slice(&played.lines);
+    let lines = played.lines();
+    lent.report[..lines.len()].copy_from_slice(lines);
     played.answer
 }
 

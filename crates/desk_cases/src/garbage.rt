@@ -1,4 +1,6 @@
 // Garbage in the places of the sheet's lists and of the report.
+ghost use Rattle.std.specs.Prelude.{◌<◌};
+
 use crate::lent::Lent;
 use limits::bounds::MAX_BOOKINGS;
 use model::{Line, Sheet};
@@ -10,7 +12,9 @@ pub const PLACES: usize = 10240;
 const MODULUS: u64 = 65521;
 
 // What a seed puts into place i of a list.
-fn value(seed: u32, i: u32, list: u8) -> u16 {
+fn value(seed: u32, i: u32, list: u8) -> u16
+    ensures { result < 65521 }
+{
     ((u64::from(seed) + 31 * u64::from(i) + 7 * u64::from(list)) % MODULUS) as u16
 }
 

@@ -5,7 +5,7 @@ use Rattle.laws.specs.Questions.{refusal}
 use Rattle.limits.specs.Refusals.{number_of}
 use Rattle.limits.specs.declared.refusals.Refusal.{Refusal}
 use Rattle.limits.specs.declared.refusals.Refusal.TheVariants.{NoName}
-use Rattle.limits.proofs.Numbers.{number-positive}
+use Rattle.limits.proofs.Numbers.{number-not_zero}
 use Rattle.loss.proofs.Rising.{loss-rising}
 use Rattle.model.specs.Day.{Setting, State}
 use Rattle.model.specs.Questions.{has_name, drop_own}
@@ -47,19 +47,16 @@ module _ (f : List ℕ) (desk : Desk) (sheet : Sheet) where
     parts = refl
 
     -- refused, nothing changes
-    refused-drops : (r : Refusal) → refusal (drop_questions S d name) ≡ number_of r → Drops S d name (Refused (number_of r)) desk sheet
+    refused-drops : (k : ℕ) → refusal (drop_questions S d name) ≡ k → (k ≡ 0 → ⊥) → Drops S d name (Refused k) desk sheet
     unfolding drop_call
-    refused-drops r e = go (number_of r) (number-positive r) e
-      where
-        go : (k : ℕ) → 0 < k → refusal (drop_questions S d name) ≡ k → Drops S d name (Refused k) desk sheet
-        go zero p e = absurd (omega arith)
-        go (suc k) p e =
-            record { answer = rw e; day = rw e; rows = rw e; places = refl; opens = rw e; reserves = rw e; helds = rw e }
+    refused-drops zero e some = absurd (some refl)
+    refused-drops (suc k) e some =
+        record { answer = rw e; day = rw e; rows = rw e; places = refl; opens = rw e; reserves = rw e; helds = rw e }
 
     -- by a question before 19
-    pub standing-refused : (r : Refusal) → number_of r ≡ refusal (standing_asks f desk o v h) → Drops S d name (Refused (number_of r)) desk sheet
-    standing-refused r e =
-        refused-drops r (ap refusal parts ∙ standing-first f desk o v h (drop_own S (standing d) name) r e)
+    pub standing-refused : (n : ℕ) → n ≡ refusal (standing_asks f desk o v h) → (n ≡ 0 → ⊥) → Drops S d name (Refused n) desk sheet
+    standing-refused n e some =
+        refused-drops n (ap refusal parts ∙ standing-first f desk o v h (drop_own S (standing d) name) n e some) some
 
     module _ (none : refusal (standing_asks f desk o v h) ≡ 0) where
       held : Standing f desk o v h
@@ -71,7 +68,7 @@ module _ (f : List ℕ) (desk : Desk) (sheet : Sheet) where
       -- by 19
       pub name-refused : false ≡ has_name name (standing d) → Drops S d name (Refused (number_of NoName)) desk sheet
       unfolding drop_own
-      name-refused e = refused-drops NoName (own ∙ rw (sym e))
+      name-refused e = refused-drops (number_of NoName) (own ∙ rw (sym e)) (number-not_zero NoName)
 
       -- ---- carried out
 

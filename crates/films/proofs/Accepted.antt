@@ -2,20 +2,26 @@
 use Rattle.std.specs.Prelude.{ℕ, zero, suc, ◌+◌, ◌*◌, ◌<◌, ◌≤◌, ◌≡◌, refl, Bool, true, false, cond, List, [], ◌∷◌, ◌++◌, length, leb}
 use Rattle.std.proofs.Common.{◌∙◌, ⊎_elim, arith, eq-or-lt_of_le, leb-true, eqb-true, le-leb, eq-eqb}
 use Rattle.laws.specs.Tests.{left, right}
-use Rattle.laws.specs.Questions.{Question, Numbered, refusal, refusal-append, both-held}
+use Rattle.laws.specs.Questions as questions
+use Rattle.laws.specs.Questions.{Question, refusal, refusal-append, both-held}
 use Rattle.limits.specs.Bounds.{max_films}
 use Rattle.limits.specs.Refusals.{film_order, round_count}
 use Rattle.films.specs.Questions.{films_in, count_at, sizes_in, sizes_at, head_questions, exceeds, few_rounds, entry_questions, size_questions, file_questions, verdict}
-use Rattle.films.specs.Accepted.{Accepted, Holds, Passes, SizesHold}
+use Rattle.films.specs.Accepted.{Accepted, Holds, Numbered, Passes, SizesHold}
 
-pub after : (qs rs : List Question) → Numbered qs → refusal qs ≡ 0 → refusal (qs ++ rs) ≡ refusal rs
+-- so a "no" gives a number, and not 0
+pub numbered : (qs : List Question) → Numbered qs → questions.Numbered qs
+numbered [] n = tt
+numbered (q ∷ qs) n = (λ _. n.0, numbered qs n.1)
+
+pub after : (qs rs : List Question) → questions.Numbered qs → refusal qs ≡ 0 → refusal (qs ++ rs) ≡ refusal rs
 after qs rs n e = refusal-append qs rs n ∙ rw e
 
 held : (b : Bool) (k n : ℕ) → (b ≡ false → 0 < k) → cond b n k ≡ 0 → (b ≡ true) × (n ≡ 0)
 held true k n p e = (refl, e)
 held false k n p e = absurd (omega (arith, p refl))
 
-pub holds : (qs : List Question) → Numbered qs → refusal qs ≡ 0 → Holds qs
+pub holds : (qs : List Question) → questions.Numbered qs → refusal qs ≡ 0 → Holds qs
 holds [] n e = tt
 holds (q ∷ qs) n e = let h = held q.0 q.1 (refusal qs) n.0 e in (h.0, holds qs n.1 h.1)
 
@@ -23,11 +29,11 @@ holds (q ∷ qs) n e = let h = held q.0 q.1 (refusal qs) n.0 e in (h.0, holds qs
 
 pub head-numbered : (s : List ℕ) → Numbered (head_questions s)
 unfolding head_questions
-head-numbered s = (λ _. omega arith, (λ _. omega arith, (λ _. omega arith, tt)))
+head-numbered s = (omega arith, (omega arith, (omega arith, tt)))
 
 pub entries-numbered : (s : List ℕ) (i k : ℕ) → Numbered (entry_questions s i k)
 entries-numbered s i zero = tt
-entries-numbered s i (suc k) = (λ _. omega arith, (λ _. omega arith, entries-numbered s (suc i) k))
+entries-numbered s i (suc k) = (omega arith, (omega arith, entries-numbered s (suc i) k))
 
 pub entries-held : (s : List ℕ) (i k : ℕ) → refusal (entry_questions s i k) ≡ 0 → (j : ℕ) → i ≤ j → j < i + k → Passes s j
 entries-held s i zero e j p q = absurd (omega arith)
@@ -45,24 +51,24 @@ entries_none s i (suc k) f =
 head-held : (s : List ℕ) → refusal (head_questions s) ≡ 0 → (1 ≤ films_in s) × (films_in s ≤ max_films)
 unfolding head_questions
 head-held s e =
-    let h = (holds (head_questions s) (head-numbered s) e).1.0 in
+    let h = (holds (head_questions s) (numbered (head_questions s) (head-numbered s)) e).1.0 in
     (leb-true _ _ (left (leb 1 (films_in s)) (leb (films_in s) max_films) h), leb-true _ _ (right (leb 1 (films_in s)) h))
 
 sizes-numbered : (s : List ℕ) → Numbered (size_questions s)
 unfolding size_questions
-sizes-numbered s = (λ _. omega arith, (λ _. omega arith, (λ _. omega arith, (λ _. omega arith, (λ _. omega arith, tt)))))
+sizes-numbered s = (omega arith, (omega arith, (omega arith, (omega arith, (omega arith, tt)))))
 
 sizes-held : (s : List ℕ) → refusal (size_questions s) ≡ 0 → SizesHold s
 unfolding size_questions
 sizes-held s e =
-    let h = holds (size_questions s) (sizes-numbered s) e in
+    let h = holds (size_questions s) (numbered (size_questions s) (sizes-numbered s)) e in
     (eqb-true _ _ h.1.0, (h.1.1.1.0, eqb-true _ _ h.1.1.1.1.0))
 
 pub accepted : (s : List ℕ) → verdict s ≡ 0 → Accepted s
 unfolding verdict file_questions
 accepted s e =
-    let h = both-held (head_questions s) (entry_questions s 0 (films_in s) ++ size_questions s) (head-numbered s) e in
-    let g = both-held (entry_questions s 0 (films_in s)) (size_questions s) (entries-numbered s 0 (films_in s)) h.1 in
+    let h = both-held (head_questions s) (entry_questions s 0 (films_in s) ++ size_questions s) (numbered (head_questions s) (head-numbered s)) e in
+    let g = both-held (entry_questions s 0 (films_in s)) (size_questions s) (numbered (entry_questions s 0 (films_in s)) (entries-numbered s 0 (films_in s))) h.1 in
     let c = head-held s h.0 in
     let z = sizes-held s g.1 in
     record {
@@ -91,7 +97,7 @@ sizes-none s a =
 pub acceptance : (s : List ℕ) → Accepted s → verdict s ≡ 0
 unfolding verdict file_questions
 acceptance s a =
-    after (head_questions s) (entry_questions s 0 (films_in s) ++ size_questions s) (head-numbered s) (head-none s a)
-    ∙ after (entry_questions s 0 (films_in s)) (size_questions s) (entries-numbered s 0 (films_in s))
+    after (head_questions s) (entry_questions s 0 (films_in s) ++ size_questions s) (numbered (head_questions s) (head-numbered s)) (head-none s a)
+    ∙ after (entry_questions s 0 (films_in s)) (size_questions s) (numbered (entry_questions s 0 (films_in s)) (entries-numbered s 0 (films_in s)))
     (entries_none s 0 (films_in s) (λ i l m. a.passes i (omega arith)))
     ∙ sizes-none s a

@@ -6,6 +6,7 @@ pub mod Decoded
 pub mod Encoded
 pub mod Examples
 pub mod FilmLaws
+pub mod FourLaws
 pub mod LookupLaws
 pub mod SizeLaws
 pub mod Span

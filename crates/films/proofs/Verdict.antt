@@ -8,16 +8,16 @@ use Rattle.limits.specs.Refusals.{number_of}
 use Rattle.limits.specs.declared.refusals.Refusal.{Refusal}
 use Rattle.limits.proofs.Numbers.{number-not_zero}
 use Rattle.films.specs.Questions.{films_in, count_at, head_questions, entry_questions, size_questions, file_questions, verdict}
-use Rattle.films.proofs.Accepted.{after, holds, head-numbered, entries-numbered}
+use Rattle.films.proofs.Accepted.{numbered, after, holds, head-numbered, entries-numbered}
 use Rattle.films.proofs.Laws.{stands}
 
 -- past the head the entries answer, and past these the sizes
 past-head : (s : List ℕ) → refusal (head_questions s) ≡ 0 → verdict s ≡ refusal (entry_questions s 0 (films_in s) ++ size_questions s)
 unfolding verdict file_questions
-past-head s h = after (head_questions s) (entry_questions s 0 (films_in s) ++ size_questions s) (head-numbered s) h
+past-head s h = after (head_questions s) (entry_questions s 0 (films_in s) ++ size_questions s) (numbered (head_questions s) (head-numbered s)) h
 
 pub last-answers : (s : List ℕ) → refusal (head_questions s) ≡ 0 → refusal (entry_questions s 0 (films_in s)) ≡ 0 → verdict s ≡ refusal (size_questions s)
-last-answers s h e = past-head s h ∙ after (entry_questions s 0 (films_in s)) (size_questions s) (entries-numbered s 0 (films_in s)) e
+last-answers s h e = past-head s h ∙ after (entry_questions s 0 (films_in s)) (size_questions s) (numbered (entry_questions s 0 (films_in s)) (entries-numbered s 0 (films_in s))) e
 
 pub head-refused : (s : List ℕ) (e : Refusal) → number_of e ≡ refusal (head_questions s) → number_of e ≡ verdict s
 unfolding verdict file_questions
@@ -34,7 +34,7 @@ pub record Headed (s : List ℕ) : Type 0 where
 pub headed : (s : List ℕ) → 0 ≡ refusal (head_questions s) → Headed s
 unfolding head_questions
 headed s e =
-    let h = holds (head_questions s) (head-numbered s) (sym e) in
+    let h = holds (head_questions s) (numbered (head_questions s) (head-numbered s)) (sym e) in
     record {
       few = leb-true _ _ (right (leb 1 (films_in s)) h.1.0);
       there = leb-true _ _ h.1.1.0;

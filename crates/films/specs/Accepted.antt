@@ -4,6 +4,11 @@ use Rattle.laws.specs.Questions.{Question}
 use Rattle.limits.specs.Bounds.{max_films}
 use Rattle.films.specs.Questions.{films_in, rounds_before, sizes_in, sizes_at, exceeds, few_rounds, small_sizes}
 
+-- no question's number is 0
+abbrev pub Numbered : List Question → Type 0
+Numbered [] = Unit {0}
+Numbered (q ∷ qs) = (0 < q.1) × Numbered qs
+
 -- each question holds
 abbrev pub Holds : List Question → Type 0
 Holds [] = Unit {0}

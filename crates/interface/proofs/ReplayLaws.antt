@@ -2,6 +2,7 @@
 -- 256, nor than the list has. Assumes nothing.
 use Rattle.std.specs.Prelude as std
 use Rattle.std.specs.Prelude.{◌≡◌, refl, Bool, true, false, cond, Option, List, [], ◌∷◌, ◌++◌, ℕ, zero, suc, ◌-◌, ◌≤◌, length, take, drop, replicate, eqb}
+use Rattle.std.specs.Result.{IfErr}
 use Rattle.std.proofs.Common.{sym, ◌∙◌, ap, ap₂, subst, append_assoc, arith, length-append}
 use Rattle.std.proofs.lemmas.List.{length-replicate}
 use Rattle.laws.specs.Questions.{refusal}
@@ -22,7 +23,7 @@ use Rattle.questions.specs.Given.{setting_at}
 use Rattle.replay.specs.Journal.{entries}
 use Rattle.replay.specs.PlainRun.{calls_of, entries_done}
 use Rattle.replay.specs.Contract as replay
-use Rattle.replay.specs.Contract.{Result, lent_to, result_of, result_by, refusal_in, entries_in, words_in}
+use Rattle.replay.specs.Contract.{Result, no_day, lent_to, result_of, result_by, refusal_in, entries_in, words_in, day_in}
 use Rattle.replay.specs.declared.Replayed as run
 use Rattle.replay.specs.declared.journal.Entry.{Entry}
 use Rattle.interface.specs.Records.{loaded, desk_of, stored}
@@ -133,6 +134,16 @@ module _ (S : Setting) (list : List Booking) (o r h : List ℕ) (fits : (bs : Li
   unfolding open_questions sheet_long
   same-result = same_by (refusal (open_questions S (over list)))
 
+-- a desk with no day has none after a refused opening, which leaves it as it was
+module _ (before : Day) (zeros : before.rounds ≡ 0 × (before.disk ≡ 0 × (before.memory ≡ 0 × (before.now ≡ 0 × before.count ≡ 0)))) where
+  pub day-told : (out : std.Result run.Replayed ℕ) (list : List Booking) (desk desk' : Desk) → desk ≡ desk_of before list
+      → IfErr out (λ number. desk' ≡ desk) → desk'.day ≡ day_in out desk'
+  day-told (std.Ok done) list desk desk' made same = refl
+  day-told (std.Err number) list desk desk' made same =
+      let blank : before ≡ no_day =
+      λ i. record { rounds = zeros.0 i; disk = zeros.1.0 i; memory = zeros.1.1.0 i; now = zeros.1.1.1.0 i; count = zeros.1.1.1.1 i } in
+      ap (λ (d : Desk). d.day) (same ∙ made) ∙ blank
+
 module _ (file : List ℕ) (rounds disk memory : ℕ) (list : List Booking) (journal log : List ℕ) (sheet : Sheet) where
   abbrev S : Setting
   S = setting_at file (opening.asked rounds disk memory)
@@ -145,10 +156,10 @@ module _ (file : List ℕ) (rounds disk memory : ℕ) (list : List Booking) (jou
       (list' : List Booking) (log' o' r' h' : List ℕ)
       → ((fits : (bs : List Booking) → Dec (Fits S bs))
       → replay.Replays (result_of S (lent_to desk.rows desk.places sheet.opens.now sheet.reserves.now sheet.helds.now) fits journal (length log)) log out desk' sheet' log')
-      → z ≡ told (refusal_in out) (entries_in out) (words_in out) desk'.day → list' ≡ stored (length desk'.rows) desk'.rows list → length desk'.rows ≡ max_bookings
+      → z ≡ told (refusal_in out) (entries_in out) (words_in out) desk'.day → desk'.day ≡ day_in out desk' → list' ≡ stored (length desk'.rows) desk'.rows list → length desk'.rows ≡ max_bookings
       → o' ≡ sheet'.opens.now → r' ≡ sheet'.reserves.now → h' ≡ sheet'.helds.now
       → ReplaysOver file rounds disk memory list journal log sheet.opens.now sheet.reserves.now sheet.helds.now z list' log' o' r' h'
-  replay-over before desk made out desk' sheet' z list' log' o' r' h' given ez el en eo er eh fits =
+  replay-over before desk made out desk' sheet' z list' log' o' r' h' given ez ed el en eo er eh fits =
       let w = result_of S (lent list) fits journal (length log) in
       let g = subst (λ (d : Desk). replay.Replays (result_of S (lent_to d.rows d.places sheet.opens.now sheet.reserves.now sheet.helds.now) fits journal (length log)) log out desk' sheet' log') made (given fits) in
       let s = same-result S list sheet.opens.now sheet.reserves.now sheet.helds.now fits journal (length log) in
@@ -158,7 +169,7 @@ module _ (file : List ℕ) (rounds disk memory : ℕ) (list : List Booking) (jou
             ∙ ap (λ (k : ℕ). told k (entries_in out) (words_in out) desk'.day) (g.refusal ∙ s.refusal')
             ∙ ap (λ (n : ℕ). told w.refusal n (words_in out) desk'.day) (g.entries ∙ s.entries')
             ∙ ap (λ (n : ℕ). told w.refusal w.entries n desk'.day) (g.words ∙ ap length s.words')
-            ∙ ap (λ (d : Day). told w.refusal w.entries (length w.words) d) (g.day ∙ s.day');
+            ∙ ap (λ (d : Day). told w.refusal w.entries (length w.words) d) (ed ∙ g.day ∙ s.day');
         records = el ∙ ap₂ (λ (n : ℕ) (l : List Booking). stored n l list) en g.rows ∙ s.records';
         logged = g.log ∙ ap (λ (ws : List ℕ). ws ++ drop (length ws) log) s.words';
         opens = eo ∙ g.opens ∙ s.opens';

@@ -79,7 +79,7 @@ pub fn playback_play(file: &[u8], day: Day, records: &[Booking], report: &mut [L
 {
     let mut desk = desk_of(day, records);
     let played = play(file, &mut desk, report.len() as u64);
-    store(report, &played.lines);
+    store(report, played.lines());
     Reply::new(played.answer, desk.day)
 }
 

@@ -1,8 +1,8 @@
 -- The splitter gives out the lines of the input, each whole or as over-long: `splits`. So the commands of a session are those of
 -- its lines: `session-commands`. The idea: the splitter holds what is kept of the bytes u since the last end of a line. Assumes nothing.
 use Rattle.std.specs.Prelude.{ℕ, suc, ◌+◌, ◌<◌, ◌≤◌, ◌≡◌, refl, Bool, true, false, cond, not, List, [], ◌∷◌, ◌++◌, map, leb, ltb, eqb, length, take, Option, Some, None}
-use Rattle.std.proofs.Common.{sym, ap, ◌∙◌, append-nil, append_assoc, arith, length-append, length-take, min, take_all, lt-ltb, le-ltb, ne_eqb, ltb-true, ltb-false, leb-true, leb-false}
-use Rattle.std.proofs.lemmas.List.{take-append-le}
+use Rattle.std.proofs.Common.{sym, ap, ◌∙◌, append-nil, append_assoc, add-one, arith, length-append, length-set, take_all, take-suc-set, lt-ltb, le-ltb, ne_eqb, ltb-true, ltb-false, leb-true, leb-false}
+use Rattle.std.proofs.lemmas.List.{length-replicate, take-append-le}
 use Rattle.std.proofs.lemmas.Bool.{not-true}
 use Rattle.limits.specs.Bounds.{max_line}
 use Rattle.laws.specs.Tests.{all, left, right, join, all_append}
@@ -36,30 +36,31 @@ held_kept s u h = go (leb (length u) max_line) refl
 
 held_more : (s : Splitter) (u : List ℕ) (b : ℕ) → Held s u → Held (appended s b) (u ++ b ∷ [])
 unfolding appended
-held_more s u b h = go (ltb (length s.line.items) max_line) refl
+held_more s u b h = go (ltb s.length max_line) refl
   where
     longer-by-one : length (u ++ b ∷ []) ≡ length u + 1
     longer-by-one = length-append u (b ∷ [])
 
-    size : length s.line.items ≡ min max_line (length u)
-    size = rw h.front (length-take max_line u)
-
-    go : (t : Bool) → ltb (length s.line.items) max_line ≡ t → Held (appended s b) (u ++ b ∷ [])
+    go : (t : Bool) → ltb s.length max_line ≡ t → Held (appended s b) (u ++ b ∷ [])
     go true e =
-        let short : length s.line.items < max_line = ltb-true _ _ e in
-        let few : length u < max_line = omega (arith, size) in
+        let short : s.length < max_line = ltb-true _ _ e in
+        let few : length u < max_line = omega (arith, h.size) in
         let whole : take max_line u ≡ u = take_all max_line u (omega arith) in
         let more : take max_line (u ++ b ∷ []) ≡ u ++ b ∷ [] = take_all max_line (u ++ b ∷ []) (omega (arith, longer-by-one)) in
         rw e
         (record {
-          front = rw (h.front, whole, more);
+          room = length-set s.bytes s.length b ∙ h.room;
+          size = omega (arith, h.size, longer-by-one);
+          front = rw (add-one, take-suc-set s.bytes s.length b (omega (arith, h.room)), h.front, whole, more);
           over = h.over ∙ le-ltb max_line (length u) (omega arith) ∙ sym (le-ltb max_line (length (u ++ b ∷ [])) (omega (arith, longer-by-one)));
         })
     go false e =
-        let full : max_line ≤ length s.line.items = ltb-false _ _ e in
-        let many : max_line ≤ length u = omega (arith, size) in
+        let full : max_line ≤ s.length = ltb-false _ _ e in
+        let many : max_line ≤ length u = omega (arith, h.size) in
         rw e
         (record {
+          room = h.room;
+          size = omega (arith, h.size, longer-by-one);
           front = h.front ∙ sym (take-append-le max_line u (b ∷ []) many);
           over = sym (lt-ltb max_line (length (u ++ b ∷ [])) (omega (arith, longer-by-one)));
         })
@@ -78,9 +79,9 @@ never-ended s = go s.ended refl
 
 append-ended : (s : Splitter) (b : ℕ) → (appended s b).ended ≡ s.ended
 unfolding appended
-append-ended s b = go (ltb (length s.line.items) max_line) refl
+append-ended s b = go (ltb s.length max_line) refl
   where
-    go : (t : Bool) → ltb (length s.line.items) max_line ≡ t → (appended s b).ended ≡ s.ended
+    go : (t : Bool) → ltb s.length max_line ≡ t → (appended s b).ended ≡ s.ended
     go true e = rw e
     go false e = rw e
 
@@ -90,7 +91,7 @@ unfolding fed continued
 ended-stands s u b h e =
     rw e
     (record {
-      held = record { front = refl; over = refl };
+      held = record { room = h.held.room; size = omega arith; front = refl; over = refl };
       plain = refl;
       ended = refl;
     })
@@ -150,7 +151,7 @@ started-stands : Stands started []
 unfolding continued
 started-stands =
     record {
-      held = record { front = refl; over = refl };
+      held = record { room = length-replicate {A = ℕ} max_line 0; size = omega arith; front = refl; over = refl };
       plain = refl;
       ended = refl;
     }

@@ -1,5 +1,5 @@
 -- The lines of an input (document 01, 'The program'), and the splitter that finds them byte by byte.
-use Rattle.std.specs.Prelude.{ℕ, true, false, cond, List, [], ◌∷◌, ◌++◌, leb, ltb, eqb, length, Option, Some, None}
+use Rattle.std.specs.Prelude.{ℕ, ◌+◌, true, false, cond, List, [], ◌∷◌, leb, ltb, eqb, length, take, set, replicate, Option, Some, None}
 use Rattle.limits.specs.Bounds.{max_line}
 use Rattle.commands.specs.Bytes.{line_end}
 use Rattle.commands.specs.Grammar.{command_of}
@@ -28,28 +28,28 @@ command_held (Some w) = command_of w
 -- ---- The splitter
 
 abbrev pub started : Splitter
-started = record { line = record { items = [] }; over = false; ended = true }
+started = record { bytes = replicate max_line 0; length = 0; over = false; ended = true }
 
 -- the line that the next byte belongs to
 unfoldable pub continued : Splitter → Splitter
-continued s = cond s.ended (record { line = record { items = [] }; over = false; ended = false }) s
+continued s = cond s.ended (record { bytes = s.bytes; length = 0; over = false; ended = false }) s
 
 -- the line with one byte more
 unfoldable pub appended : Splitter → ℕ → Splitter
 appended s b =
-    cond (ltb (length s.line.items) max_line)
-    (record { line = record { items = s.line.items ++ b ∷ [] }; over = s.over; ended = s.ended })
-    (record { line = s.line; over = true; ended = s.ended })
+    cond (ltb s.length max_line)
+    (record { bytes = set s.bytes s.length b; length = s.length + 1; over = s.over; ended = s.ended })
+    (record { bytes = s.bytes; length = s.length; over = true; ended = s.ended })
 
 unfoldable pub fed : Splitter → ℕ → Splitter
 fed s b =
     cond (eqb b line_end)
-    (record { line = (continued s).line; over = (continued s).over; ended = true })
+    (record { bytes = (continued s).bytes; length = (continued s).length; over = (continued s).over; ended = true })
     (appended (continued s) b)
 
 -- the line held
 abbrev pub held_of : Splitter → Option (List ℕ)
-held_of s = cond s.over None (Some s.line.items)
+held_of s = cond s.over None (Some (take s.length s.bytes))
 
 -- the lines that a splitter gives out on an input: one after each byte that ends a line, and one that the end of input ends
 abbrev pub given : Splitter → List ℕ → List (Option (List ℕ))

@@ -5,15 +5,15 @@ ghost use Rattle.std.specs.Prelude.{◌≡◌, ◌<◌, length};
 ghost use Rattle.lines.specs.Lines.{started, continued, fed, held_of, command_held};
 ghost use Rattle.lines.specs.Feeding.{fed_line, after_line};
 
-use arrayvec::ArrayVec;
 use commands::{Command, parse};
 use limits::bounds::MAX_LINE;
 
-// The line that is being read: its first 200 bytes, and whether it is longer. `ended` says that the line is complete, and that
-// the next byte begins another one.
-#[derive(Drop)]
+// The line that is being read: its first 200 bytes, how many of these are there, and whether it is longer. `ended` says that
+// the line is complete, and that the next byte begins another one. An array and a length, since an `ArrayVec` cannot be copied.
+#[derive(Clone, Copy)]
 pub struct Splitter {
-    pub line: ArrayVec<u8, MAX_LINE>,
+    pub bytes: [u8; MAX_LINE],
+    pub length: usize,
     pub over: bool,
     pub ended: bool,
 }
@@ -24,7 +24,8 @@ impl Splitter {
         ensures { result ≡ started }
     {
         Splitter {
-            line: ArrayVec::new(),
+            bytes: [0u8; MAX_LINE],
+            length: 0,
             over: false,
             ended: true,
         }
@@ -36,7 +37,7 @@ impl Splitter {
         ensures { self.new ≡ continued self.old }
     {
         if self.ended {
-            self.line.clear();
+            self.length = 0;
             self.over = false;
             self.ended = false;
         }
@@ -50,10 +51,11 @@ impl Splitter {
         self.continue_line();
         if byte == b'\n' {
             self.ended = true;
-        } else if self.line.is_full() {
-            self.over = true;
+        } else if self.length < MAX_LINE {
+            self.bytes[self.length] = byte;
+            self.length += 1;
         } else {
-            self.line.push(byte);
+            self.over = true;
         }
     }
 
@@ -79,7 +81,7 @@ impl Splitter {
         if self.over {
             None
         } else {
-            parse(self.line.as_slice())
+            parse(&self.bytes[..self.length.min(MAX_LINE)])
         }
     }
 }

@@ -4,8 +4,6 @@ use Rattle.std.proofs.Common.{sym, ap, ◌∙◌, arith, le-leb}
 use Rattle.std.proofs.Math.Bool.{and-true}
 use Prim.Native.Nat.{ℕ, zero, suc}
 use Rattle.laws.specs.Questions.{refusal}
-use Rattle.limits.specs.Refusals.{number_of as refusal-number}
-use Rattle.limits.specs.declared.refusals.Refusal.{Refusal}
 use Rattle.model.specs.Day.{Setting, State}
 use Rattle.model.specs.Calls.{open_questions, open_call, rounds_in_range, limits_in_range, sheet_long}
 use Rattle.model.specs.Code.{day_opened}
@@ -14,7 +12,6 @@ use Rattle.model.proofs.Unchanged.{open-empty}
 use Rattle.model.specs.declared.Day.{Day}
 use Rattle.model.specs.declared.Answer.TheVariants.{Refused, Opened}
 use Rattle.questions.specs.Numbers.{rounds_hold, day_holds, limits_hold, sheet_holds, day_asks}
-use Rattle.limits.proofs.Numbers.{number-not_zero}
 use Rattle.opening.specs.Contract.{asked, Opens}
 use Rattle.model.specs.declared.Sheet.{Sheet}
 
@@ -34,11 +31,11 @@ module _ (S : Setting) (d : State) (before : Day) where
   same_asks = rw (begins S)
 
   -- refused: nothing changes
-  pub refused-opens : (r : Refusal) → refusal-number r ≡ asks
+  pub refused-opens : (n : ℕ) → n ≡ asks → (n ≡ 0 → ⊥)
       → (sheet : Sheet) → sheet.opens.now ≡ d.opens → sheet.reserves.now ≡ d.reserves → sheet.helds.now ≡ d.helds
-      → Opens S d before (Refused (refusal-number r)) before sheet
+      → Opens S d before (Refused n) before sheet
   unfolding open_call
-  refused-opens r e sheet o v h = rw e (go asks same_asks (λ z. number-not_zero r (e ∙ z)))
+  refused-opens n e some sheet o v h = rw e (go asks same_asks (λ z. some (e ∙ z)))
     where
       go : (k : ℕ) → refusal (open_questions S d) ≡ k → (k ≡ 0 → ⊥) → Opens S d before (Refused k) before sheet
       go zero u z = absurd (z refl)

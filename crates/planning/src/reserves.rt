@@ -15,7 +15,7 @@ use films::file::FilmFile;
 use films::film::Sizes;
 use limits::bounds::MAX_PREFETCH;
 use limits::refusals::Refusal;
-use retrieval::{Schedule, carry_before};
+use retrieval::{Schedule, carry_before, larger};
 
 // The largest of the film's sizes. A loop, since no proof is found of a chain over the rounds.
 fn largest(film: &Sizes<'_>) -> u64
@@ -23,7 +23,7 @@ fn largest(film: &Sizes<'_>) -> u64
 {
     let mut most: u64 = 0;
     for i in 0..film.rounds {
-        most = most.max(film.get(i));
+        most = larger(most, film.get(i));
     }
     most
 }

@@ -22,6 +22,10 @@ lines_in Opened = 0
 lines_in (Booked s) = 0
 lines_in Dropped = 0
 
+-- the lines that it says, of an array that has them in front
+abbrev pub told_lines : Answer → List Line → List Line
+told_lines a lines = take (lines_in a) lines
+
 -- and which: those of a played round, none with a refusal
 abbrev pub lines_for : Setting → ℕ → List Booking → Answer → List Line
 lines_for S now bs (Played films cabs) = lines_of S now bs

@@ -1,10 +1,10 @@
 -- The number of play's questions, and a round that is refused or played. Assumes nothing.
-use Rattle.std.specs.Prelude.{◌≡◌, refl, List, [], ◌∷◌, ℕ, zero, suc, ◌+◌, ◌<◌, length, take, eqb}
+use Rattle.std.specs.Prelude.{◌≡◌, refl, List, [], ◌∷◌, ℕ, zero, suc, ◌+◌, length, take, eqb}
 use Rattle.std.proofs.Common.{sym, ap, ap₂, ◌∙◌, arith, add-one, le-leb}
 use Rattle.std.specs.Int.Count.{ones}
 use Rattle.limits.specs.Refusals.{number_of, day_rounds, day_limits, unsound}
 use Rattle.limits.specs.declared.refusals.Refusal.{Refusal}
-use Rattle.limits.proofs.Numbers.{number-positive, number-not_zero}
+use Rattle.limits.proofs.Numbers.{number-not_zero}
 use Rattle.laws.specs.Questions.{Question, refusal, refusal-append, or_else, or_else-first, Numbered}
 use Rattle.films.specs.Questions.{verdict}
 use Rattle.model.specs.Day.{Setting}
@@ -61,6 +61,11 @@ module _ (f : List ℕ) (desk : Desk) (room : ℕ) where
       refusal-append first (play_own S bs desk.day.now room) numbered
       ∙ ap (λ (n : ℕ). or_else n (refusal (play_own S bs desk.day.now room))) first-standing
 
+  -- a number of the questions up to 16 stands
+  pub standing-first : (n : ℕ) → n ≡ standing_number → (n ≡ 0 → ⊥) → play_number ≡ n
+  standing-first n e h =
+      asked-after ∙ or_else-first standing_number (refusal (play_own S bs desk.day.now room)) (λ z. h (e ∙ z)) ∙ sym e
+
   -- with none of the questions up to 16, the bookings stand
   pub standing-ready : standing_number ≡ 0 → Ready f desk
   standing-ready e =
@@ -91,34 +96,29 @@ module _ (f : List ℕ) (desk : Desk) (room : ℕ) where
         ap (play_with S (state_of desk.day desk.rows desk.places opens reserves helds) report) (asked_of opens reserves helds report l ∙ e)
 
   -- a refusal: no line, and nothing changes
-  pub plays-refused : (r : Refusal) → play_number ≡ number_of r → Plays f desk room (Refused (number_of r)) [] desk
-  plays-refused r e = go (number_of r) (number-positive r) e
-    where
-      go : (k : ℕ) → 0 < k → play_number ≡ k → Plays f desk room (Refused k) [] desk
-      go zero p e = absurd (omega arith)
-      go (suc k) p e =
-          record {
-            answer = λ opens reserves helds report l. ap (λ (o : Outcome). o.answer) (called (suc k) e opens reserves helds report l);
-            report = λ opens reserves helds report l. ap (λ (o : Outcome). o.report) (called (suc k) e opens reserves helds report l);
-            day = λ opens reserves helds report l. ap (λ (o : Outcome). day_of S o.state) (called (suc k) e opens reserves helds report l);
-            state = λ opens reserves helds report l. ap (λ (o : Outcome). o.state) (called (suc k) e opens reserves helds report l);
-            lines = refl;
-            count = refl;
-            rows = refl;
-            places = refl;
-          }
+  pub plays-refused : (k : ℕ) → play_number ≡ k → (k ≡ 0 → ⊥) → Plays f desk room (Refused k) [] desk
+  plays-refused zero e h = absurd (h refl)
+  plays-refused (suc k) e h =
+      record {
+        answer = λ opens reserves helds report l. ap (λ (o : Outcome). o.answer) (called (suc k) e opens reserves helds report l);
+        report = λ opens reserves helds report l. ap (λ (o : Outcome). o.report) (called (suc k) e opens reserves helds report l);
+        day = λ opens reserves helds report l. ap (λ (o : Outcome). day_of S o.state) (called (suc k) e opens reserves helds report l);
+        state = λ opens reserves helds report l. ap (λ (o : Outcome). o.state) (called (suc k) e opens reserves helds report l);
+        lines = refl;
+        count = refl;
+        rows = refl;
+        places = refl;
+      }
 
   -- by a question up to 16
   pub standing-refused : (r : Refusal) → number_of r ≡ standing_number → Plays f desk room (Refused (number_of r)) [] desk
-  standing-refused r e =
-      plays-refused r
-      (asked-after ∙ or_else-first standing_number (refusal (play_own S bs desk.day.now room)) (λ z. number-not_zero r (e ∙ z)) ∙ sym e)
+  standing-refused r e = plays-refused (number_of r) (standing-first (number_of r) e (number-not_zero r)) (number-not_zero r)
 
   module _ (none : standing_number ≡ 0) (lines : List Line) (are : lines ≡ lines_of S desk.day.now bs) where
     -- by 23 or 11
     pub own-refused : (r : Refusal) → number_of r ≡ refusal (own_asks desk.day.now desk.day.rounds (length lines) room)
         → Plays f desk room (Refused (number_of r)) [] desk
-    own-refused r e = plays-refused r (own-after (length lines) none (ap length are) ∙ sym e)
+    own-refused r e = plays-refused (number_of r) (own-after (length lines) none (ap length are) ∙ sym e) (number-not_zero r)
 
     -- a played round: its lines, and `now` rises by one
     pub plays-accepted : (cabs : ℕ) → 0 ≡ refusal (own_asks desk.day.now desk.day.rounds (length lines) room)

@@ -2,6 +2,7 @@
 #![tactic(auto)]
 
 ghost use Rattle.std.specs.Prelude.{◌≡◌, ◌<◌, length};
+ghost use Rattle.limits.specs.Bounds.{hall_places};
 ghost use Rattle.limits.specs.Refusals.{number};
 ghost use Rattle.model.specs.Code.{SameLists};
 ghost use Rattle.lines.specs.Lines.{started};
@@ -20,7 +21,7 @@ use lines::Splitter;
 use model::{Answer, Desk, Sheet};
 
 // What stands between two reads: the day with its bookings, and the line that is being read.
-#[derive(Drop)]
+#[derive(Clone, Copy)]
 pub struct Session {
     pub desk: Desk,
     pub line: Splitter,
@@ -77,6 +78,7 @@ pub fn serve_line<'a>(
     ensures line { session.new.line ≡ fed_line session.old.line bytes.now }
     ensures rest { result.1.now ≡ after_line session.old.line bytes.now }
     ensures moved { 0 < length bytes.now → length result.1.now < length bytes.now }
+    ensures places { session.old.desk.places ≡ hall_places → session.new.desk.places ≡ hall_places }
     ensures lists { SameLists sheet.old sheet.new }
 {
     if bytes.is_empty() {
@@ -95,6 +97,7 @@ pub fn serve_line<'a>(
 pub fn serve_end(file: &[u8], session: &mut Session, sheet: &mut Sheet<'_>, out: &mut [u8]) -> usize
     ensures after { after_of session.new.desk sheet.new out.new result ≡ ended_of file.now (with_sheet session.old.desk sheet.old) session.old.line out.old }
     ensures line { session.new.line ≡ session.old.line }
+    ensures places { session.old.desk.places ≡ hall_places → session.new.desk.places ≡ hall_places }
     ensures lists { SameLists sheet.old sheet.new }
 {
     if session.line.ended {

@@ -135,13 +135,13 @@ module _ (f : List ℕ) (desk : Desk) (opens reserves helds : ℕ) where
   unfolding standing_asks
   file-first e v = rw (ne_eqb (verdict f) 0 (λ z. number-not_zero e (v ∙ z))) (sym v)
 
-  -- a refusal before the call's own questions stands, whatever these are; else they decide
-  pub standing-first : (rs : List Question) (e : Refusal) → number_of e ≡ refusal (standing_asks f desk opens reserves helds)
-      → refusal (standing_asks f desk opens reserves helds ++ rs) ≡ number_of e
-  standing-first rs e v =
+  -- a number before the call's own questions stands, whatever these are; else they decide
+  pub standing-first : (rs : List Question) (n : ℕ) → n ≡ refusal (standing_asks f desk opens reserves helds) → (n ≡ 0 → ⊥)
+      → refusal (standing_asks f desk opens reserves helds ++ rs) ≡ n
+  standing-first rs n e h =
       refusal-append (standing_asks f desk opens reserves helds) rs standing-numbered
-      ∙ or_else-first (refusal (standing_asks f desk opens reserves helds)) (refusal rs) (λ z. number-not_zero e (v ∙ z))
-      ∙ sym v
+      ∙ or_else-first (refusal (standing_asks f desk opens reserves helds)) (refusal rs) (λ z. h (e ∙ z))
+      ∙ sym e
 
   pub standing-after : (rs : List Question) → refusal (standing_asks f desk opens reserves helds) ≡ 0
       → refusal (standing_asks f desk opens reserves helds ++ rs) ≡ refusal rs

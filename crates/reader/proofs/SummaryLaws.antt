@@ -67,6 +67,17 @@ pub record Adding (s : List ℕ) (at n bytes most i : ℕ) : Type 0 where
   pub sum_is : sum (sizes s at n) ≡ bytes + sum (sizes s (at + 4 * i) (n - i))
   pub largest-is : largest (sizes s at n) ≡ max most (largest (sizes s (at + 4 * i) (n - i)))
 
+pub adding-none : (s : List ℕ) (at n : ℕ) → Adding s at n 0 0 0
+adding-none s at n =
+    let e : at + 4 * 0 ≡ at = omega arith in
+    let f : n - 0 ≡ n = omega arith in
+    record {
+      within = omega arith;
+      bound = omega arith;
+      sum_is = rw (e, f) (omega arith);
+      largest-is = rw (e, f) (omega arith);
+    }
+
 pub adding-small : (s : List ℕ) (at n i : ℕ) → Stored s at n → i < n → size s (at + 4 * i) ≤ max_size
 adding-small s at n i v h = omega (arith, v.small i, get_or-sizes s at n i h)
 

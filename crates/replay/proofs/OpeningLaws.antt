@@ -76,14 +76,14 @@ module _ (f : List ℕ) (T D M : ℕ) (desk : Desk) (sheet : Sheet) (a : Answer)
         go (suc k) z = omega arith
 
     pub refused-replays : (number : ℕ) → a ≡ A.Refused number → (fits : (bs : List Booking) → Dec (Fits S bs)) (journal log : List ℕ)
-        → Replays (result_of S lent fits journal (length log)) log (Err number) after sheet' log
+        → Replays (result_of S lent fits journal (length log)) log (Err number) desk sheet' log
     unfolding open_call
     refused-replays number e fits journal log =
         let n : refusal (open_questions S lent) ≡ number = number_is ∙ ap number_of e in
         go number n (sym (said number n) ∙ e)
       where
         go : (k : ℕ) → refusal (open_questions S lent) ≡ k → (open_with S lent k).answer ≡ A.Refused k
-            → Replays (result_of S lent fits journal (length log)) log (Err k) after sheet' log
+            → Replays (result_of S lent fits journal (length log)) log (Err k) desk sheet' log
         go zero e z = absurd cc
         go (suc k) e z =
             rw e
@@ -92,7 +92,7 @@ module _ (f : List ℕ) (T D M : ℕ) (desk : Desk) (sheet : Sheet) (a : Answer)
               entries = refl;
               words = refl;
               log = refl;
-              day = is.day ∙ ap (opened_day S lent no_day) e;
+              day = refl;
               rows = refl;
               opens = is.opens ∙ ap (λ (n : ℕ). (open_with S lent n).state.opens) e;
               reserves = is.reserves ∙ ap (λ (n : ℕ). (open_with S lent n).state.reserves) e;

@@ -50,13 +50,18 @@ abbrev pub words_in : std.Result Replayed ℕ → ℕ
 words_in (std.Ok done) = done.words
 words_in (std.Err _) = 0
 
+-- the day after them: none after a refused opening
+abbrev pub day_in : std.Result Replayed ℕ → Desk → Day
+day_in (std.Ok _) desk = desk.day
+day_in (std.Err _) desk = no_day
+
 -- the answer, the day, every record place, every place of the log and of the sheet
 pub record Replays (w : Result) (old : List ℕ) (r : std.Result Replayed ℕ) (desk' : Desk) (sheet' : Sheet) (log' : List ℕ) : Type 0 where
   pub refusal : refusal_in r ≡ w.refusal
   pub entries : entries_in r ≡ w.entries
   pub words : words_in r ≡ length w.words
   pub log : log' ≡ w.words ++ drop (length w.words) old
-  pub day : desk'.day ≡ w.day
+  pub day : day_in r desk' ≡ w.day
   pub rows : desk'.rows ≡ w.state.records
   pub opens : sheet'.opens.now ≡ w.state.opens
   pub reserves : sheet'.reserves.now ≡ w.state.reserves
@@ -77,7 +82,7 @@ module _ (S : Setting) (lent : State) (fits : (bs : List Booking) → Dec (Fits 
         state = d;
       }
 
-  -- a refused opening leaves no day, and everything else as it was lent
+  -- an opening that is refused changes nothing
   abbrev pub result_by : ℕ → List ℕ → ℕ → Result
   result_by zero journal room = result_after (take (entries_done S lent.places fits at_first room (entries journal)) (entries journal))
   result_by (suc k) journal room = record { refusal = suc k; entries = 0; words = []; day = no_day; state = lent }

@@ -63,8 +63,7 @@ fn run(
 
 // Opens a day on the desk and carries the journal's entries out in order. The log gets each entry's answer and, after a played
 // round, its report's lines; the replay ends before the first entry whose words do not fit in what is left of the log. An opening
-// that is refused gives its number, as the model's answer has it. The desk then has no day, all zeros, whatever day it had, and
-// nothing else that is lent changes.
+// that is refused gives its number, as the model's answer has it, and nothing lent changes.
 pub fn replay(
     file: &[u8],
     desk: &mut Desk,
@@ -77,15 +76,17 @@ pub fn replay(
 ) -> Result<Replayed, u32>
     ensures replays { (fits : (bs : List Booking) → Dec (Fits (setting_at file.now (asked rounds disk memory)) bs)) → Replays (result_of (setting_at file.now (asked rounds disk memory)) (lent_to desk.old.rows desk.old.places sheet.old.opens.now sheet.old.reserves.now sheet.old.helds.now) fits journal.now (length log.old)) log.old result desk.new sheet.new log.new }
     ensures numbered { IfErr result (λ number. 0 < number) }
+    ensures refused { IfErr result (λ number. desk.new ≡ desk.old) }
     ensures places { desk.new.places ≡ desk.old.places }
     ensures same_sheet { SameLists sheet.old sheet.new }
 {
     // A proof knows how long an array behind a reference is once a slice of it is made.
     let _rows = &desk.rows[..];
-    desk.day = Day::default();
-    if let Answer::Refused(number) = open(&mut desk.day, sheet, rounds, disk, memory) {
+    let mut day = Day::default();
+    if let Answer::Refused(number) = open(&mut day, sheet, rounds, disk, memory) {
         return Err(number);
     }
+    desk.day = day;
     let file = LentFile::read(file);
     Ok(run(&file, desk, sheet, journal, log))
 }

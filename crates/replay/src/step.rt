@@ -29,7 +29,7 @@ fn step_play(films: &FilmFile<'_>, desk: &mut Desk, room: u64, log: &mut Log<'_>
 {
     let day = desk.day;
     let played = play_standing(films, desk, room);
-    let lines = played.lines.as_slice();
+    let lines = played.lines();
     if log.room() < ANSWER_WORDS + LINE_WORDS * lines.len() {
         desk.day = day;
         return false;

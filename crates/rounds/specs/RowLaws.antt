@@ -149,8 +149,8 @@ rows_fit from r to w room xs h k m =
     )
 
 -- no more are open than there are bookings
-pub active-bound : (from to : ℕ) (bookings : List Marked) → length bookings ≤ max_bookings → length (active from to (streams_in bookings)) ≤ max_bookings
-active-bound from to bookings h = omega (arith, length-filter (open_between from to) (streams_in bookings), count_by-le-length (open_between from to) (streams_in bookings), streams-long bookings)
+pub active-bound : (from to : ℕ) (xs : List Stream) → length xs ≤ max_bookings → length (active from to xs) ≤ max_bookings
+active-bound from to xs h = omega (arith, length-filter (open_between from to) xs, count_by-le-length (open_between from to) xs)
 
 -- the rows that were written are those of a block
 pub block_of : (f : List ℕ) (bookings : List Marked) (from n rows : ℕ) (words : List ℕ) → Bookings f bookings
@@ -158,7 +158,7 @@ pub block_of : (f : List ℕ) (bookings : List Marked) (from n rows : ℕ) (word
     → BlockOf f (active from (from + n) (streams_in bookings)) (record { from = from; rounds = n; bookings = rows }) words
 block_of f bookings from n rows words b d w =
     record {
-      few = omega (arith, w.bookings, active-bound from (from + n) bookings b.few);
+      few = omega (arith, w.bookings, active-bound from (from + n) (streams_in bookings) (omega (arith, streams-long bookings, b.few)));
       playable = λ i u. active-each from (from + n) (Playable f) (streams_in bookings) b.playable i (omega (arith, w.bookings));
       table = w;
       day = d;

@@ -17,6 +17,9 @@ pub const MARK_ROUNDS: usize = 256;
 // marks of a booking
 pub const MARKS: usize = 18;
 
+// marks of all bookings of a day
+pub const MARK_WORDS: usize = 4608;
+
 // A booking with its marks: the carry of its rounds from every 256th on.
 #[derive(Clone, Copy, PartialEq, Eq, Debug, Default)]
 pub struct Marked {

@@ -1,6 +1,7 @@
 -- `opening::open` meets its contract: the number is the model's, a refusal leaves everything, and each list is zeroed in its
 -- first T places, which 11 says are there. Assumes nothing.
 use Rattle.std.proofs.Common.{refl, sym, arith}
+use Rattle.limits.proofs.Numbers.{number-not_zero}
 use Rattle.loss.specs.Loss.{loss_at}
 use Rattle.model.specs.Code.{setting_of, state_of}
 use Rattle.opening.specs.Contract.{asked}
@@ -21,7 +22,7 @@ pub returns-in-Err-clause-opened : goal.returns-in-Err-clause-opened
 returns-in-Err-clause-opened c verdict films rows places =
     let a = c.args in
     let S = setting_of verdict films loss_at (asked a.rounds a.disk a.memory) in
-    rw c.number.ensures (refused-opens S (state_of a.day.now rows places a.sheet.now.opens.now a.sheet.now.reserves.now a.sheet.now.helds.now) a.day.now c.in-Err.refusal c.in-Err.ensures a.sheet.now refl refl refl)
+    rw c.number.ensures (refused-opens S (state_of a.day.now rows places a.sheet.now.opens.now a.sheet.now.reserves.now a.sheet.now.helds.now) a.day.now _ c.in-Err.ensures (number-not_zero c.in-Err.refusal) a.sheet.now refl refl refl)
 
 pub returns-in-Ok-clause-opened : goal.returns-in-Ok-clause-opened
 returns-in-Ok-clause-opened c verdict films rows places =

@@ -8,14 +8,14 @@ pub returns-in-Refused-clause-replays : goal.returns-in-Refused-clause-replays
 returns-in-Refused-clause-replays c fits =
     let x = c.args in
     let o = c.open in
-    refused-replays x.file.now x.rounds x.disk x.memory x.desk.now x.sheet.now o.result o.new.day o.new.sheet c.default-desk.result c.default-desk.ensures
+    refused-replays x.file.now x.rounds x.disk x.memory x.desk.now x.sheet.now o.result o.new.day o.new.sheet c.default-day.result c.default-day.ensures
     o.ensures.opened c.in-Refused.number c.in-Refused.is fits x.journal.now x.log.now
 
 pub returns-in-Refused-clause-numbered : goal.returns-in-Refused-clause-numbered
 returns-in-Refused-clause-numbered c =
     let x = c.args in
     let o = c.open in
-    refused-positive x.file.now x.rounds x.disk x.memory x.desk.now x.sheet.now o.result o.new.day o.new.sheet c.default-desk.result c.default-desk.ensures
+    refused-positive x.file.now x.rounds x.disk x.memory x.desk.now x.sheet.now o.result o.new.day o.new.sheet c.default-day.result c.default-day.ensures
     o.ensures.opened c.in-Refused.number c.in-Refused.is
 
 pub run-requires : goal.run-requires
@@ -23,7 +23,7 @@ run-requires c =
     let x = c.args in
     let o = c.open in
     rw c.read-file.ensures
-    (opened-pictured x.file.now x.rounds x.disk x.memory x.desk.now x.sheet.now o.result o.new.day o.new.sheet c.default-desk.result c.default-desk.ensures
+    (opened-pictured x.file.now x.rounds x.disk x.memory x.desk.now x.sheet.now o.result o.new.day o.new.sheet c.default-day.result c.default-day.ensures
     o.ensures.opened c.in_default.not-Refused (omega arith))
 
 pub returns-clause-replays : goal.returns-clause-replays
@@ -31,6 +31,6 @@ returns-clause-replays c fits =
     let x = c.args in
     let o = c.open in
     let r = c.run.new in
-    opened-replays x.file.now x.rounds x.disk x.memory x.desk.now x.sheet.now o.result o.new.day o.new.sheet c.default-desk.result c.default-desk.ensures
+    opened-replays x.file.now x.rounds x.disk x.memory x.desk.now x.sheet.now o.result o.new.day o.new.sheet c.default-day.result c.default-day.ensures
     o.ensures.opened c.in_default.not-Refused (omega arith) fits x.journal.now x.log.now (Ok c.run.result) r.desk r.sheet r.words
     (rw c.read-file.ensures at c.run.ensures.replays)

@@ -40,4 +40,4 @@ returns c =
     let film = c.requires.in_range in
     let whole = worked a.file.now a.y (max_prefetch + max_rounds) film (short a.file.now a.y film) c.rounds-length.result c.add_held.new.part c.rounds-length.ensures c.add_held.ensures.added in
     c.first_fit.ensures
-    ∙ ap (λ (p : List ℕ). answer_of (first_of (fits_at (query_of a.y p a.xs.now a.sheet.now.opens.now a.sheet.now.reserves.now a.sheet.now.helds.now a.day.disk a.day.memory)) a.first a.last)) whole
+    ∙ ap (λ (p : List ℕ). answer_of (first_of (fits_at (query_of a.y p a.xs.now a.opens.now a.reserves.now a.helds.now a.day.disk a.day.memory)) a.first a.last)) whole

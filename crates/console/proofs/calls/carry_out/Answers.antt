@@ -35,7 +35,7 @@ returns-in-Play-clause-carried c =
     let it = c.in-Play in
     let played = c.play in
     rw (c.in-Some.is, it.is)
-    (play-carries a.file.now a.desk.now a.sheet.now played.result.answer played.result.lines.items played.new.desk played.ensures)
+    (play-carries a.file.now a.desk.now a.sheet.now played.result played.new.desk played.ensures.plays played.ensures.lines)
 
 pub returns-in_default-clause-carried : goal.returns-in_default-clause-carried
 returns-in_default-clause-carried c =

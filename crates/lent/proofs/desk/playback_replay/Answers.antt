@@ -1,5 +1,5 @@
 use Rattle.std.proofs.Common.{arith, rules}
-use Rattle.interface.proofs.ReplayLaws.{replay-over}
+use Rattle.interface.proofs.ReplayLaws.{day-told, replay-over}
 use Rattle.lent.proofs.desk.playback_replay.Goals as goal
 
 pub returns : goal.returns
@@ -8,4 +8,4 @@ returns c =
     let made = c.desk_of-desk in
     let done = c.replay-answer in
     replay-over x.file.now x.rounds x.disk x.memory x.records.now x.journal.now x.log.now (record { opens = x.opens; reserves = x.reserves; helds = x.helds }) _ made.result made.ensures
-    done.result done.new.desk done.new.sheet _ _ _ _ _ _ done.ensures.replays c.new.ensures c.store.ensures (omega arith) (search rules) (search rules) (search rules)
+    done.result done.new.desk done.new.sheet _ _ _ _ _ _ done.ensures.replays c.new.ensures (day-told _ c.default.ensures _ _ _ _ made.ensures done.ensures.refused) c.store.ensures (omega arith) (search rules) (search rules) (search rules)

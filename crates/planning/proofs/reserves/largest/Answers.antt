@@ -17,4 +17,4 @@ returns c =
     let xs = sizes z.file.now z.at z.rounds in
     let lx = length-sizes z.file.now z.at z.rounds in
     let all : take c.loop-i.i xs ≡ xs = take_all c.loop-i.i xs (omega arith) in
-    rw all at c.loop-i.invariant
+    rw all at c.loop-i.invariant.0

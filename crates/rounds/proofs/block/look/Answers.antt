@@ -2,6 +2,7 @@ use Rattle.std.proofs.Common.{refl, sym, ◌∙◌, length, arith}
 use Rattle.std.proofs.lemmas.List.Sums.{length-filter}
 use Rattle.rounds.specs.Table.{streams_in}
 use Rattle.rounds.specs.Rows.{open_between}
+use Rattle.rounds.specs.TableLaws.{streams-long}
 use Rattle.rounds.specs.RowLaws.{active-bound, rows_fit, block_of}
 use Rattle.rounds.proofs.block.look.Goals as goal
 
@@ -9,7 +10,7 @@ pub block_rounds-requires : goal.block_rounds-requires
 block_rounds-requires c =
     let a = c.args in
     let last = c.min-last.result in
-    omega (arith, c.count_open-most.ensures, length-filter (open_between a.from last) (streams_in a.bookings.now), active-bound a.from last a.bookings.now c.requires.0.few)
+    omega (arith, c.count_open-most.ensures, length-filter (open_between a.from last) (streams_in a.bookings.now), active-bound a.from last (streams_in a.bookings.now) (omega (arith, streams-long a.bookings.now, c.requires.0.few)))
 
 pub write_rows-bookings-requires : goal.write_rows-bookings-requires
 write_rows-bookings-requires c =
