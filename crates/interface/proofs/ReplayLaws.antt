@@ -156,10 +156,10 @@ module _ (file : List ℕ) (rounds disk memory : ℕ) (list : List Booking) (jou
       (list' : List Booking) (log' o' r' h' : List ℕ)
       → ((fits : (bs : List Booking) → Dec (Fits S bs))
       → replay.Replays (result_of S (lent_to desk.rows desk.places sheet.opens.now sheet.reserves.now sheet.helds.now) fits journal (length log)) log out desk' sheet' log')
-      → z ≡ told (refusal_in out) (entries_in out) (words_in out) desk'.day → desk'.day ≡ day_in out desk' → list' ≡ stored (length desk'.rows) desk'.rows list → length desk'.rows ≡ max_bookings
+      → z ≡ told (refusal_in out) (entries_in out) (words_in out) desk'.day → list' ≡ stored (length desk'.rows) desk'.rows list → length desk'.rows ≡ max_bookings
       → o' ≡ sheet'.opens.now → r' ≡ sheet'.reserves.now → h' ≡ sheet'.helds.now
       → ReplaysOver file rounds disk memory list journal log sheet.opens.now sheet.reserves.now sheet.helds.now z list' log' o' r' h'
-  replay-over before desk made out desk' sheet' z list' log' o' r' h' given ez ed el en eo er eh fits =
+  replay-over before desk made out desk' sheet' z list' log' o' r' h' given ez el en eo er eh fits =
       let w = result_of S (lent list) fits journal (length log) in
       let g = subst (λ (d : Desk). replay.Replays (result_of S (lent_to d.rows d.places sheet.opens.now sheet.reserves.now sheet.helds.now) fits journal (length log)) log out desk' sheet' log') made (given fits) in
       let s = same-result S list sheet.opens.now sheet.reserves.now sheet.helds.now fits journal (length log) in
@@ -169,7 +169,7 @@ module _ (file : List ℕ) (rounds disk memory : ℕ) (list : List Booking) (jou
             ∙ ap (λ (k : ℕ). told k (entries_in out) (words_in out) desk'.day) (g.refusal ∙ s.refusal')
             ∙ ap (λ (n : ℕ). told w.refusal n (words_in out) desk'.day) (g.entries ∙ s.entries')
             ∙ ap (λ (n : ℕ). told w.refusal w.entries n desk'.day) (g.words ∙ ap length s.words')
-            ∙ ap (λ (d : Day). told w.refusal w.entries (length w.words) d) (ed ∙ g.day ∙ s.day');
+            ∙ ap (λ (d : Day). told w.refusal w.entries (length w.words) d) (g.day ∙ s.day');
         records = el ∙ ap₂ (λ (n : ℕ) (l : List Booking). stored n l list) en g.rows ∙ s.records';
         logged = g.log ∙ ap (λ (ws : List ℕ). ws ++ drop (length ws) log) s.words';
         opens = eo ∙ g.opens ∙ s.opens';

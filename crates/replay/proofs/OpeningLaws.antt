@@ -30,7 +30,7 @@ use Rattle.model.specs.declared.Answer.TheVariants as A
 use Rattle.opening.specs.Contract.{asked, Opens}
 use Rattle.questions.specs.Given.{setting_at}
 use Rattle.replay.specs.Journal.{entries}
-use Rattle.replay.specs.Contract.{no_day, lent_to, Result, Replays, result_by, result_of}
+use Rattle.replay.specs.Contract.{no_day, lent_to, Result, desk_in, Replays, result_by, result_of}
 use Rattle.replay.specs.DeskRun.{desk_run, run_result}
 use Rattle.replay.proofs.RunLaws.{run-result}
 use Rattle.replay.specs.Pictured.{Pictured}
@@ -75,15 +75,26 @@ module _ (f : List ℕ) (T D M : ℕ) (desk : Desk) (sheet : Sheet) (a : Answer)
         go zero z = absurd cc
         go (suc k) z = omega arith
 
+    -- .. and the day is still the blank one
+    pub refused-day : (number : ℕ) → a ≡ A.Refused number → day' ≡ no_day
+    refused-day number e =
+        let n : refusal (open_questions S lent) ≡ number = number_is ∙ ap number_of e in
+        go number n (sym (said number n) ∙ e)
+      where
+        go : (k : ℕ) → refusal (open_questions S lent) ≡ k → (open_with S lent k).answer ≡ A.Refused k → day' ≡ no_day
+        go zero e z = absurd cc
+        go (suc k) e z = is.day ∙ ap (opened_day S lent no_day) e
+
+    -- the desk with the opening's day
     pub refused-replays : (number : ℕ) → a ≡ A.Refused number → (fits : (bs : List Booking) → Dec (Fits S bs)) (journal log : List ℕ)
-        → Replays (result_of S lent fits journal (length log)) log (Err number) desk sheet' log
+        → Replays (result_of S lent fits journal (length log)) log (Err number) after sheet' log
     unfolding open_call
     refused-replays number e fits journal log =
         let n : refusal (open_questions S lent) ≡ number = number_is ∙ ap number_of e in
         go number n (sym (said number n) ∙ e)
       where
         go : (k : ℕ) → refusal (open_questions S lent) ≡ k → (open_with S lent k).answer ≡ A.Refused k
-            → Replays (result_of S lent fits journal (length log)) log (Err k) desk sheet' log
+            → Replays (result_of S lent fits journal (length log)) log (Err k) after sheet' log
         go zero e z = absurd cc
         go (suc k) e z =
             rw e
@@ -92,12 +103,20 @@ module _ (f : List ℕ) (T D M : ℕ) (desk : Desk) (sheet : Sheet) (a : Answer)
               entries = refl;
               words = refl;
               log = refl;
-              day = refl;
+              day = is.day ∙ ap (opened_day S lent no_day) e;
               rows = refl;
               opens = is.opens ∙ ap (λ (n : ℕ). (open_with S lent n).state.opens) e;
               reserves = is.reserves ∙ ap (λ (n : ℕ). (open_with S lent n).state.reserves) e;
               helds = is.helds ∙ ap (λ (n : ℕ). (open_with S lent n).state.helds) e;
             })
+
+    -- .. and the desk as it was lent, of which `desk_in` says that day
+    pub refused-lent : (number : ℕ) → a ≡ A.Refused number → (fits : (bs : List Booking) → Dec (Fits S bs)) (journal log : List ℕ)
+        → Replays (result_of S lent fits journal (length log)) log (Err number) (desk_in (Err number) desk) sheet' log
+    refused-lent number e fits journal log =
+        subst
+        (λ (d : Day). Replays (result_of S lent fits journal (length log)) log (Err number) (record { day = d; rows = desk.rows; places = desk.places }) sheet' log)
+        (refused-day number e) (refused-replays number e fits journal log)
 
     -- accepted
     module _ (accepts : (n : ℕ) → a ≡ A.Refused n → ⊥) where

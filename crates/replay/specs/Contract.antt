@@ -55,13 +55,17 @@ abbrev pub day_in : std.Result Replayed ℕ → Desk → Day
 day_in (std.Ok _) desk = desk.day
 day_in (std.Err _) desk = no_day
 
+-- the desk with that day: a refused opening leaves the desk's own as it was
+abbrev pub desk_in : std.Result Replayed ℕ → Desk → Desk
+desk_in r desk = record { day = day_in r desk; rows = desk.rows; places = desk.places }
+
 -- the answer, the day, every record place, every place of the log and of the sheet
 pub record Replays (w : Result) (old : List ℕ) (r : std.Result Replayed ℕ) (desk' : Desk) (sheet' : Sheet) (log' : List ℕ) : Type 0 where
   pub refusal : refusal_in r ≡ w.refusal
   pub entries : entries_in r ≡ w.entries
   pub words : words_in r ≡ length w.words
   pub log : log' ≡ w.words ++ drop (length w.words) old
-  pub day : day_in r desk' ≡ w.day
+  pub day : desk'.day ≡ w.day
   pub rows : desk'.rows ≡ w.state.records
   pub opens : sheet'.opens.now ≡ w.state.opens
   pub reserves : sheet'.reserves.now ≡ w.state.reserves

@@ -14,7 +14,7 @@ ghost use Rattle.model.specs.declared.Booking.{Booking};
 ghost use Rattle.opening.specs.Contract.{asked};
 ghost use Rattle.questions.specs.Given.{setting_at};
 ghost use Rattle.replay.specs.Journal.{entries};
-ghost use Rattle.replay.specs.Contract.{lent_to, result_of, Replays};
+ghost use Rattle.replay.specs.Contract.{lent_to, result_of, desk_in, Replays};
 ghost use Rattle.replay.specs.DeskRun.{desk_run, run_result};
 ghost use Rattle.replay.specs.Pictured.{Pictured};
 
@@ -74,7 +74,7 @@ pub fn replay(
     journal: &[u64],
     log: &mut [u64],
 ) -> Result<Replayed, u32>
-    ensures replays { (fits : (bs : List Booking) → Dec (Fits (setting_at file.now (asked rounds disk memory)) bs)) → Replays (result_of (setting_at file.now (asked rounds disk memory)) (lent_to desk.old.rows desk.old.places sheet.old.opens.now sheet.old.reserves.now sheet.old.helds.now) fits journal.now (length log.old)) log.old result desk.new sheet.new log.new }
+    ensures replays { (fits : (bs : List Booking) → Dec (Fits (setting_at file.now (asked rounds disk memory)) bs)) → Replays (result_of (setting_at file.now (asked rounds disk memory)) (lent_to desk.old.rows desk.old.places sheet.old.opens.now sheet.old.reserves.now sheet.old.helds.now) fits journal.now (length log.old)) log.old result (desk_in result desk.new) sheet.new log.new }
     ensures numbered { IfErr result (λ number. 0 < number) }
     ensures refused { IfErr result (λ number. desk.new ≡ desk.old) }
     ensures places { desk.new.places ≡ desk.old.places }

@@ -1,14 +1,14 @@
 -- `replay` meets its contract: a refused opening changes nothing; after an accepted one the run by the model's calls is the plain
 -- day's, for any decision which lists of bookings fit.
 use Rattle.std.proofs.Common.{arith, Ok}
-use Rattle.replay.proofs.OpeningLaws.{refused-positive, refused-replays, opened-pictured, opened-replays}
+use Rattle.replay.proofs.OpeningLaws.{refused-positive, refused-lent, opened-pictured, opened-replays}
 use Rattle.replay.proofs.replay.Goals as goal
 
 pub returns-in-Refused-clause-replays : goal.returns-in-Refused-clause-replays
 returns-in-Refused-clause-replays c fits =
     let x = c.args in
     let o = c.open in
-    refused-replays x.file.now x.rounds x.disk x.memory x.desk.now x.sheet.now o.result o.new.day o.new.sheet c.default-day.result c.default-day.ensures
+    refused-lent x.file.now x.rounds x.disk x.memory x.desk.now x.sheet.now o.result o.new.day o.new.sheet c.default-day.result c.default-day.ensures
     o.ensures.opened c.in-Refused.number c.in-Refused.is fits x.journal.now x.log.now
 
 pub returns-in-Refused-clause-numbered : goal.returns-in-Refused-clause-numbered
